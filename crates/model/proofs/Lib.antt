@@ -1,0 +1,5 @@
+pub mod Entries
+pub mod Numbers
+pub mod OneOutcome
+pub mod Validity
+pub mod Verdicts

@@ -1,0 +1,87 @@
+-- Laws of verdicts: which of two comes first, and what the `else` of `let Verdict::Sound = v else` knows of v.
+-- Assumes nothing.
+use mathlib.Core.Path.{_≡_, refl, _∙_, ap, subst}
+use mathlib.Core.List.{List, [], _∷_}
+use mathlib.Core.Bool.{Bool, true, false}
+use lib.Dec.{T, eqb, ltb}
+use borrow.Author.Tests.{eqb-true, eqb-false}
+use Prim.Native.Nat.{ℕ, _+_, _-_, _≤_, _<_}
+use lib.ListN.{getD}
+use types.Run.{OneOf, miss}
+use denote.Enum.Declared.{tagOf}
+use Rattle.model.specs.declared.Verdict.{Verdict}
+use Rattle.model.specs.declared.Verdict.the-variants.{Sound, NoBytes, Edition, JobCount, Length, Interval, Stiffness, Spare, Pages, NoPeriods, Budget, Room, Row, Periods}
+use Rattle.model.specs.Model.{numberOf, refuseIf, orElse, entries, firstRefused}
+use Rattle.model.proofs.Verdict.{the-type}
+use Rattle.model.proofs.Entries.{entries-step, entries-end}
+
+-- the variants that the `else` may hold
+abbrev pub refusals : List ℕ
+refusals = 1 ∷ 2 ∷ 3 ∷ 4 ∷ 5 ∷ 6 ∷ 7 ∷ 8 ∷ 9 ∷ 10 ∷ 11 ∷ 12 ∷ 13 ∷ []
+
+-- v, told to be a, is sound: what comes after it decides
+pub sound-passes : {v a : Verdict} (rest : Verdict) → v ≡ a → v ≡ Sound → orElse a rest ≡ rest
+unfolding orElse refuseIf
+sound-passes rest e s = rw (← e, s)
+
+refused-first : (v rest : Verdict) → OneOf refusals (tagOf the-type v) → v ≡ orElse v rest
+unfolding orElse refuseIf
+refused-first Sound rest h = absurd (miss refusals 0 tt h)
+refused-first NoBytes rest h = refl
+refused-first Edition rest h = refl
+refused-first JobCount rest h = refl
+refused-first Length rest h = refl
+refused-first (Interval k) rest h = refl
+refused-first (Stiffness k) rest h = refl
+refused-first (Spare k) rest h = refl
+refused-first (Pages k) rest h = refl
+refused-first NoPeriods rest h = refl
+refused-first (Budget b) rest h = refl
+refused-first (Room k) rest h = refl
+refused-first (Row k) rest h = refl
+refused-first (Periods k) rest h = refl
+
+-- v, told to be a, is a refusal: it stands before whatever would come after it
+pub refused-stays : {v a : Verdict} (rest : Verdict) → v ≡ a → OneOf refusals (tagOf the-type v) → v ≡ orElse a rest
+refused-stays {v} rest e h = refused-first v rest h ∙ ap (λ (w : Verdict). orElse w rest) e
+
+-- judging the entries from place k to place n, one by one
+module _ {A : Type 0} (judgeOne : A → ℕ → Verdict) (d : A) (xs : List A) (k n : ℕ) where
+  pub one-judged : k < n → firstRefused judgeOne k (entries d xs k (n - k)) ≡ orElse (judgeOne (getD xs k d) (k + 1)) (firstRefused judgeOne (k + 1) (entries d xs (k + 1) (n - (k + 1))))
+  unfolding firstRefused
+  one-judged h = ap (firstRefused judgeOne k) (entries-step d xs k n h)
+
+  pub all-judged : n ≤ k → firstRefused judgeOne k (entries d xs k (n - k)) ≡ Sound
+  unfolding firstRefused
+  all-judged h = ap (firstRefused judgeOne k) (entries-end d xs k n h)
+
+sound-of-zero : (v : Verdict) → numberOf v ≡ 0 → v ≡ Sound
+sound-of-zero Sound e = refl
+sound-of-zero NoBytes e = absurd (eqb-false _ 0 refl e)
+sound-of-zero Edition e = absurd (eqb-false _ 0 refl e)
+sound-of-zero JobCount e = absurd (eqb-false _ 0 refl e)
+sound-of-zero Length e = absurd (eqb-false _ 0 refl e)
+sound-of-zero (Interval k) e = absurd (eqb-false _ 0 refl e)
+sound-of-zero (Stiffness k) e = absurd (eqb-false _ 0 refl e)
+sound-of-zero (Spare k) e = absurd (eqb-false _ 0 refl e)
+sound-of-zero (Pages k) e = absurd (eqb-false _ 0 refl e)
+sound-of-zero NoPeriods e = absurd (eqb-false _ 0 refl e)
+sound-of-zero (Budget b) e = absurd (eqb-false _ 0 refl e)
+sound-of-zero (Room k) e = absurd (eqb-false _ 0 refl e)
+sound-of-zero (Row k) e = absurd (eqb-false _ 0 refl e)
+sound-of-zero (Periods k) e = absurd (eqb-false _ 0 refl e)
+
+-- a sound chain of checks: no test of it held
+pub test-passed : (t : Bool) (refusal rest : Verdict) → T (ltb 0 (numberOf refusal)) → refuseIf t refusal rest ≡ Sound → (t ≡ false) × (rest ≡ Sound)
+unfolding refuseIf
+test-passed true refusal rest h e = absurd (subst (λ (v : Verdict). T (ltb 0 (numberOf v))) e h)
+test-passed false refusal rest h e = (refl, e)
+
+-- two verdicts in a row that are sound are both sound
+pub both-sound : (v : Verdict) {rest : Verdict} → orElse v rest ≡ Sound → (v ≡ Sound) × (rest ≡ Sound)
+unfolding orElse refuseIf
+both-sound v {rest} e = go (eqb (numberOf v) 0) refl e
+  where
+    go : (t : Bool) → eqb (numberOf v) 0 ≡ t → refuseIf t rest v ≡ Sound → (v ≡ Sound) × (rest ≡ Sound)
+    go true z e′ = (sound-of-zero v (eqb-true _ 0 z), e′)
+    go false z e′ = absurd (eqb-false _ 0 z (ap numberOf e′))

@@ -1,0 +1,210 @@
+-- What a plan is and when it is right, in the order of document 01. Every public contract of the planner is stated with these
+-- definitions; each comment ends in the place of its rule there. Laws about them are in proofs/, which no contract cites.
+-- Assumes nothing.
+use mathlib.Core.Path.{_≡_}
+use mathlib.Core.List.{List, [], _∷_}
+use mathlib.Core.Bool.{Bool, true, false}
+use Prim.Native.Nat.{ℕ, zero, suc, _+_, _*_, _-_, _/_, _%_, _^_, _≤_, _<_}
+use lib.ListN.{getD}
+use lib.Dec.{eqb, ltb}
+use Rattle.model.specs.declared.Seconds.{Seconds}
+use Rattle.model.specs.declared.PagesPerHour.{PagesPerHour}
+use Rattle.model.specs.declared.Job.{Job}
+use Rattle.model.specs.declared.Profile.{Profile}
+use Rattle.model.specs.declared.Verdict.{Verdict}
+use Rattle.model.specs.declared.Verdict.the-variants.{Sound, NoBytes, Edition, JobCount, Length, Interval, Stiffness, Spare, Pages, NoPeriods, Budget, Room, Row, Periods}
+
+-- Quantities
+
+abbrev pub seconds : ℕ → Seconds
+seconds t = record { 0 = t }
+
+abbrev pub pagesPerHour : ℕ → PagesPerHour
+pagesPerHour r = record { 0 = r }
+
+-- A job of zeros: what stands in a place beyond the last job (Packing).
+abbrev pub noJob : Job
+noJob = record { lo = seconds 0; hi = seconds 0; «data» = 0; metadata = 0; stiffness = 0 }
+
+-- `k` entries of a list, from place `i` on; `d` stands for an entry that the list lacks.
+unfoldable pub entries : {A : Type 0} → A → List A → ℕ → ℕ → List A
+entries d xs i zero = []
+entries d xs i (suc k) = getD xs i d ∷ entries d xs (i + 1) k
+
+-- The jobs of a profile: the first n of its eight places (Packing).
+abbrev pub jobsOf : Profile → List Job
+jobsOf p = entries noJob (p .jobs) 0 (p .n)
+
+-- The periods that count among eight numbers: as many as there are jobs (Quantities, on scoring).
+abbrev pub periodsOf : Profile → List Seconds → List Seconds
+periodsOf p ts = entries (seconds 0) ts 0 (p .n)
+
+-- The pages of one run: c = d + g (Quantities).
+abbrev pub cost : Job → ℕ
+cost j = j .«data» + j .metadata
+
+-- A job within its bounds (Quantities).
+pub record ValidJob (j : Job) : Type 0 where
+  pub lo-from : 1 ≤ j .lo .0
+  pub lo-to : j .lo .0 ≤ j .hi .0
+  pub hi-to : j .hi .0 ≤ 3600
+  pub data-to : j .«data» ≤ 32767
+  pub metadata-to : j .metadata ≤ 32767
+  pub stiffness-from : 1 ≤ j .stiffness
+  pub stiffness-to : j .stiffness ≤ 32
+
+abbrev pub ValidJobs : List Job → Type 0
+ValidJobs [] = Unit {0}
+ValidJobs (j ∷ js) = ValidJob j × ValidJobs js
+
+-- A profile of 1 to 8 jobs, each within its bounds (Quantities).
+pub record Valid (p : Profile) : Type 0 where
+  pub n-from : 1 ≤ p .n
+  pub n-to : p .n ≤ 8
+  pub jobs : ValidJobs (jobsOf p)
+
+-- A period that a job may have after the period `before`: in its interval, and a whole multiple (Quantities).
+pub record Allowed (j : Job) (before t : Seconds) : Type 0 where
+  pub above : j .lo .0 ≤ t .0
+  pub below : t .0 ≤ j .hi .0
+  pub multiple : t .0 % before .0 ≡ 0
+
+-- One period for each job, each allowed after the one before it (Quantities).
+abbrev pub PermittedAfter : Seconds → List Job → List Seconds → Type 0
+PermittedAfter before [] [] = Unit {0}
+PermittedAfter before [] (t ∷ ts) = ⊥
+PermittedAfter before (j ∷ js) [] = ⊥
+PermittedAfter before (j ∷ js) (t ∷ ts) = Allowed j before t × PermittedAfter t js ts
+
+-- Permitted periods (Quantities). The first job has no period before it: every number is a multiple of one second.
+abbrev pub Permitted : List Job → List Seconds → Type 0
+Permitted js ts = PermittedAfter (seconds 1) js ts
+
+-- Tn, the last period; `before` where there is none.
+unfoldable pub lastOf : Seconds → List Seconds → Seconds
+lastOf before [] = before
+lastOf before (t ∷ ts) = lastOf t ts
+
+-- The pages that jobs at these periods write in `span` seconds, a multiple of every period (Quantities: need).
+unfoldable pub pagesIn : Seconds → List Job → List Seconds → ℕ
+pagesIn span [] ts = 0
+pagesIn span (j ∷ js) [] = 0
+pagesIn span (j ∷ js) (t ∷ ts) = cost j * (span .0 / t .0) + pagesIn span js ts
+
+-- A fraction rounded up to a whole number.
+abbrev pub roundUp : ℕ → ℕ → ℕ
+roundUp a b = (a + (b - 1)) / b
+
+-- The hourly pages of a plan, a fraction over Tn, rounded up once (Quantities: need).
+unfoldable pub need : List Job → List Seconds → PagesPerHour
+need js ts = pagesPerHour (roundUp (3600 * pagesIn (lastOf (seconds 1) ts) js ts) (lastOf (seconds 1) ts .0))
+
+-- Periods fit a budget when their need is at most that (Quantities).
+abbrev pub FitsBudget : List Job → List Seconds → PagesPerHour → Type 0
+FitsBudget js ts b = need js ts .0 ≤ b .0
+
+-- The hourly rate of a job at a period, rounded down (Quantities: loss).
+unfoldable pub rate : Job → Seconds → PagesPerHour
+rate j t = pagesPerHour (3600 * cost j / t .0)
+
+-- What one job loses at a period against its shortest (Quantities: loss).
+unfoldable pub jobLoss : Job → Seconds → ℕ
+jobLoss j t = j .stiffness * (rate j (j .lo) .0 - rate j t .0) ^ 2
+
+-- The loss of a plan: the sum over its jobs (Quantities).
+unfoldable pub loss : List Job → List Seconds → ℕ
+loss [] ts = 0
+loss (j ∷ js) [] = 0
+loss (j ∷ js) (t ∷ ts) = jobLoss j t + loss js ts
+
+-- One list of periods is another, or is smaller at the first period in which they differ (Quantities: best).
+abbrev pub NotAfter : List Seconds → List Seconds → Type 0
+NotAfter [] us = Unit {0}
+NotAfter (t ∷ ts) [] = ⊥
+NotAfter (t ∷ ts) (u ∷ us) = (t .0 ≤ u .0) × (t .0 ≡ u .0 → NotAfter ts us)
+
+-- The order of plans: loss, on equal loss need, on equal need the list (Quantities: best).
+pub record NoWorse (js : List Job) (ts us : List Seconds) : Type 0 where
+  pub loss-first : loss js ts ≤ loss js us
+  pub need-next : loss js ts ≡ loss js us → need js ts .0 ≤ need js us .0
+  pub list-last : loss js ts ≡ loss js us → need js ts .0 ≡ need js us .0 → NotAfter ts us
+
+-- Best for a budget: permitted, fitting, and no worse than any other list that is (Quantities: best).
+pub record Best (js : List Job) (b : PagesPerHour) (ts : List Seconds) : Type 0 where
+  pub permitted : Permitted js ts
+  pub fits : FitsBudget js ts b
+  pub first : (us : List Seconds) → Permitted js us → FitsBudget js us b → NoWorse js ts us
+
+-- Refusal numbers
+
+-- The number of each refusal; 0 is none (Refusal numbers, the table).
+abbrev pub numberOf : Verdict → ℕ
+numberOf Sound = 0
+numberOf NoBytes = 1
+numberOf Edition = 2
+numberOf JobCount = 3
+numberOf Length = 4
+numberOf (Interval k) = 5
+numberOf (Stiffness k) = 6
+numberOf (Spare k) = 7
+numberOf (Pages k) = 8
+numberOf NoPeriods = 9
+numberOf (Budget b) = 10
+numberOf (Room k) = 11
+numberOf (Row k) = 12
+numberOf (Periods k) = 13
+
+-- The detail of each refusal (Refusal numbers, the table).
+abbrev pub detailOf : Verdict → ℕ
+detailOf Sound = 0
+detailOf NoBytes = 0
+detailOf Edition = 0
+detailOf JobCount = 0
+detailOf Length = 0
+detailOf (Interval k) = k
+detailOf (Stiffness k) = k
+detailOf (Spare k) = k
+detailOf (Pages k) = k
+detailOf NoPeriods = 0
+detailOf (Budget b) = b .0
+detailOf (Room k) = k
+detailOf (Row k) = k
+detailOf (Periods k) = k
+
+-- A refusal where a test holds, else what comes after it: the order of the checks (Refusal numbers, order).
+unfoldable pub refuseIf : Bool → Verdict → Verdict → Verdict
+refuseIf true refusal rest = refusal
+refuseIf false refusal rest = rest
+
+-- The first verdict if it is a refusal, else the second.
+unfoldable pub orElse : Verdict → Verdict → Verdict
+orElse v rest = refuseIf (eqb (numberOf v) 0) rest v
+
+-- The first refusal as the entries of a list are judged one by one, each with its number, the first one's being k + 1.
+unfoldable pub firstRefused : {A : Type 0} → (A → ℕ → Verdict) → ℕ → List A → Verdict
+firstRefused judgeOne k [] = Sound
+firstRefused judgeOne k (x ∷ xs) = orElse (judgeOne x (k + 1)) (firstRefused judgeOne (k + 1) xs)
+
+-- 5, then 6, for the job numbered k: what bytes and values share (Refusal numbers).
+unfoldable pub judgeIntervalAndStiffness : Job → ℕ → Verdict
+judgeIntervalAndStiffness j k =
+    refuseIf (eqb (j .lo .0) 0) (Interval k)
+    (refuseIf (ltb (j .hi .0) (j .lo .0)) (Interval k)
+    (refuseIf (ltb 3600 (j .hi .0)) (Interval k)
+    (refuseIf (eqb (j .stiffness) 0) (Stiffness k) (refuseIf (ltb 32 (j .stiffness)) (Stiffness k) Sound))))
+
+-- 5, 6, then 8, for the job numbered k, given as values (Refusal numbers).
+unfoldable pub judgeJob : Job → ℕ → Verdict
+judgeJob j k =
+    orElse (judgeIntervalAndStiffness j k)
+    (refuseIf (ltb 32767 (j .«data»)) (Pages k) (refuseIf (ltb 32767 (j .metadata)) (Pages k) Sound))
+
+-- The verdict on a profile given as values: 3, then the first bad job (Refusal numbers, order).
+unfoldable pub verdictOf : Profile → Verdict
+verdictOf p =
+    refuseIf (eqb (p .n) 0) JobCount
+    (refuseIf (ltb 8 (p .n)) JobCount (firstRefused judgeJob 0 (jobsOf p)))
+
+-- What `judge` may answer.
+abbrev pub Judged : Profile → Verdict → Type 0
+Judged p r = r ≡ verdictOf p

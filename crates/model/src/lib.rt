@@ -1,0 +1,160 @@
+// The values of the planner and what they mean: jobs, profiles, and the verdict that every operation gives.
+//
+// specs/Model.antt says what a plan is and when it is right; every public contract of the planner is stated with it.
+// Nothing is assumed, and no function here has a `requires`.
+ghost use mathlib.Core.Path.{_≡_};
+ghost use Rattle.model.specs.Model.{numberOf, detailOf, judgeIntervalAndStiffness, judgeJob, Judged};
+
+// Whole seconds: a period, or an end of a job's interval.
+pub struct Seconds(pub u32);
+
+// Flash pages per hour: a budget, a need or a rate. A small budget passes every range check of a period, so the two
+// are never the same type.
+pub struct PagesPerHour(pub u32);
+
+// One write job. Every number that can be judged can be given.
+pub struct Job {
+    // The shortest and the longest period.
+    pub lo: Seconds,
+    pub hi: Seconds,
+    // The pages that one run writes.
+    pub data: u32,
+    pub metadata: u32,
+    pub stiffness: u32,
+}
+
+// A profile as values: the first n of the eight jobs, in their fixed order. Jobs beyond n are ignored.
+pub struct Profile {
+    pub n: u32,
+    pub jobs: [Job; 8],
+}
+
+// What an operation says of its input: sound, or why it refuses. `number` and `detail` tell a refusal's number and
+// detail; where the detail is a job, a row or an amount, the variant holds it.
+pub enum Verdict {
+    Sound,
+    // 1 to 4: the profile as a whole.
+    NoBytes,
+    Edition,
+    JobCount,
+    Length,
+    // 5 to 8: the first bad job, counted from 1.
+    Interval(u32),
+    Stiffness(u32),
+    Spare(u32),
+    Pages(u32),
+    // 9: nothing is permitted. 10: nothing fits, and the least budget that would do.
+    NoPeriods,
+    Budget(PagesPerHour),
+    // 11: the rows or bytes needed. 12: the first bad row, from 1, or 0 for the table's length.
+    Room(u64),
+    Row(u64),
+    // 13: the first job whose period is not permitted.
+    Periods(u32),
+}
+
+// The refusal's number, 0 where there is none.
+pub fn number(v: Verdict) -> u32
+    ensures { λ r. ⌜ r ≡ numberOf v ⌝ }
+{
+    match v {
+        Verdict::Sound => 0,
+        Verdict::NoBytes => 1,
+        Verdict::Edition => 2,
+        Verdict::JobCount => 3,
+        Verdict::Length => 4,
+        Verdict::Interval(_) => 5,
+        Verdict::Stiffness(_) => 6,
+        Verdict::Spare(_) => 7,
+        Verdict::Pages(_) => 8,
+        Verdict::NoPeriods => 9,
+        Verdict::Budget(_) => 10,
+        Verdict::Room(_) => 11,
+        Verdict::Row(_) => 12,
+        Verdict::Periods(_) => 13,
+    }
+}
+
+// The refusal's detail, 0 where it has none.
+pub fn detail(v: Verdict) -> u64
+    ensures { λ r. ⌜ r ≡ detailOf v ⌝ }
+{
+    match v {
+        Verdict::Sound => 0,
+        Verdict::NoBytes => 0,
+        Verdict::Edition => 0,
+        Verdict::JobCount => 0,
+        Verdict::Length => 0,
+        Verdict::Interval(k) => k as u64,
+        Verdict::Stiffness(k) => k as u64,
+        Verdict::Spare(k) => k as u64,
+        Verdict::Pages(k) => k as u64,
+        Verdict::NoPeriods => 0,
+        Verdict::Budget(b) => b.0 as u64,
+        Verdict::Room(k) => k,
+        Verdict::Row(k) => k,
+        Verdict::Periods(k) => k as u64,
+    }
+}
+
+// The verdict on a profile given as values: 3, then the first bad job, within it 5, 6, 8.
+pub fn judge(p: Profile) -> Verdict
+    ensures { λ r. ⌜ Judged p r ⌝ }
+{
+    let n = p.n;
+    if n == 0 {
+        return Verdict::JobCount;
+    }
+    if 8 < n {
+        return Verdict::JobCount;
+    }
+    let mut k: u32 = 0;
+    while k < n {
+        let j = p.jobs[k as usize];
+        let v = judge_job(j, k + 1);
+        let Verdict::Sound = v else {
+            return v;
+        };
+        k += 1;
+    }
+    Verdict::Sound
+}
+
+// 5, 6 and 8 for the job numbered k.
+fn judge_job(j: Job, k: u32) -> Verdict
+    ensures { λ r. ⌜ r ≡ judgeJob j k ⌝ }
+{
+    let v = judge_interval_and_stiffness(j, k);
+    let Verdict::Sound = v else {
+        return v;
+    };
+    if 32767 < j.data {
+        return Verdict::Pages(k);
+    }
+    if 32767 < j.metadata {
+        return Verdict::Pages(k);
+    }
+    Verdict::Sound
+}
+
+// 5 and 6 for the job numbered k: what profiles as values and as bytes are judged by alike.
+pub fn judge_interval_and_stiffness(j: Job, k: u32) -> Verdict
+    ensures { λ r. ⌜ r ≡ judgeIntervalAndStiffness j k ⌝ }
+{
+    if j.lo.0 == 0 {
+        return Verdict::Interval(k);
+    }
+    if j.hi.0 < j.lo.0 {
+        return Verdict::Interval(k);
+    }
+    if 3600 < j.hi.0 {
+        return Verdict::Interval(k);
+    }
+    if j.stiffness == 0 {
+        return Verdict::Stiffness(k);
+    }
+    if 32 < j.stiffness {
+        return Verdict::Stiffness(k);
+    }
+    Verdict::Sound
+}
