@@ -1,10 +1,12 @@
 -- Laws of the entries of a list from one place to another, for loops that go through them one by one.
 -- Assumes nothing.
-use mathlib.Core.Path.{_≡_, ap}
-use mathlib.Core.List.{List, [], _∷_}
-use Prim.Native.Nat.{ℕ, suc, _+_, _-_, _≤_, _<_}
+use mathlib.Core.Path.{_≡_, refl, sym, _∙_, ap, ap₂}
+use mathlib.Core.List.{List, [], _∷_, _++_}
+use Prim.Native.Nat.{ℕ, zero, suc, _+_, _-_, _≤_, _<_}
+use native.Mathlib.Nat.{add-zero}
 use native.Mathlib.Omega.{arith}
-use lib.ListN.{getD}
+use lib.ListN.{length, getD, length-append}
+use lib.Seq.{getD-append-seam, append-snoc}
 use Rattle.model.specs.Model.{entries}
 
 module _ {A : Type 0} (d : A) (xs : List A) (k n : ℕ) where
@@ -19,3 +21,29 @@ module _ {A : Type 0} (d : A) (xs : List A) (k n : ℕ) where
   entries-end h =
       let e : n - k ≡ 0 = omega arith in
       ap (entries d xs k) e
+
+-- one entry more, behind
+pub entries-snoc : {A : Type 0} (d : A) (xs : List A) (i k : ℕ) → entries d xs i (suc k) ≡ entries d xs i k ++ (getD xs (i + k) d ∷ [])
+unfolding entries
+entries-snoc d xs i zero = ap (λ (n : ℕ). getD xs n d ∷ []) (sym (add-zero i))
+entries-snoc d xs i (suc k) =
+    let place : i + 1 + k ≡ i + suc k = omega arith in
+    ap (λ (l : List _). getD xs i d ∷ l) (entries-snoc d xs (i + 1) k ∙ ap (λ (n : ℕ). entries d xs (i + 1) k ++ (getD xs n d ∷ [])) place)
+
+pub length-entries : {A : Type 0} (d : A) (xs : List A) (i k : ℕ) → length (entries d xs i k) ≡ k
+unfolding entries
+length-entries d xs i zero = refl
+length-entries d xs i (suc k) = ap suc (length-entries d xs (i + 1) k)
+
+-- the entries that stand between others
+entries-between : {A : Type 0} (d : A) (xs ys zs : List A) → entries d (xs ++ (ys ++ zs)) (length xs) (length ys) ≡ ys
+unfolding entries
+entries-between d xs [] zs = refl
+entries-between d xs (y ∷ ys) zs =
+    let passed : length (xs ++ (y ∷ [])) ≡ length xs + 1 = length-append xs (y ∷ []) in
+    ap₂ _∷_
+    (getD-append-seam xs y (ys ++ zs) d)
+    (ap (λ (k : ℕ). entries d (xs ++ (y ∷ (ys ++ zs))) k (length ys)) (sym passed) ∙ ap (λ (l : List _). entries d l (length (xs ++ (y ∷ []))) (length ys)) (sym (append-snoc xs y (ys ++ zs))) ∙ entries-between d (xs ++ (y ∷ [])) ys zs)
+
+pub entries-front : {A : Type 0} (d : A) (ys zs : List A) → entries d (ys ++ zs) 0 (length ys) ≡ ys
+entries-front d ys zs = entries-between d [] ys zs

@@ -1,16 +1,18 @@
 -- A profile given as values is judged sound exactly when it is valid: each test that did not hold is a bound, and the other way round.
 -- Assumes nothing.
-use mathlib.Core.Path.{_≡_, refl, _∙_, ap}
+use mathlib.Core.Path.{_≡_, refl, _∙_, ap, subst}
 use mathlib.Core.List.{List, [], _∷_}
 use mathlib.Core.Bool.{Bool, true, false}
-use Prim.Native.Nat.{ℕ, _+_, _≤_, _<_}
+use Prim.Native.Nat.{ℕ, zero, suc, _+_, _≤_, _<_}
+use native.Mathlib.Nat.{zero-add, add-zero, not-suc-le-zero, le-of-suc-le-suc}
+use lib.ListN.{getD}
 use native.Mathlib.Omega.{arith}
 use borrow.Author.Tests.{eqb-false, ltb-false, le-ltb, ne-eqb}
 use Rattle.model.specs.declared.Job.{Job}
 use Rattle.model.specs.declared.Profile.{Profile}
 use Rattle.model.specs.declared.Verdict.{Verdict}
 use Rattle.model.specs.declared.Verdict.the-variants.{Sound}
-use Rattle.model.specs.Model.{ValidJob, ValidJobs, Valid, jobsOf, refuseIf, orElse, firstRefused, judgeIntervalAndStiffness, judgeJob, verdictOf}
+use Rattle.model.specs.Model.{ValidJob, ValidJobs, Valid, noJob, entries, jobsOf, refuseIf, orElse, firstRefused, judgeIntervalAndStiffness, judgeJob, verdictOf}
 use Rattle.model.proofs.Verdicts.{test-passed, both-sound, sound-passes}
 
 -- what 5 and 6 leave
@@ -81,3 +83,15 @@ sound-valid p e =
 pub valid-sound : (p : Profile) → Valid p → verdictOf p ≡ Sound
 unfolding verdictOf refuseIf
 valid-sound p v = simp (ne-eqb (p .n) 0 (omega arith), le-ltb 8 (p .n) (v .n-to)) (jobs-sound (jobsOf p) 0 (v .jobs))
+
+-- each job of a valid profile is valid
+valid-entry : (xs : List Job) (i k n : ℕ) → ValidJobs (entries noJob xs i n) → k < n → ValidJob (getD xs (i + k) noJob)
+unfolding entries
+valid-entry xs i k zero v h = absurd (not-suc-le-zero h)
+valid-entry xs i zero (suc n) v h = rw (add-zero i) (v .0)
+valid-entry xs i (suc k) (suc n) v h =
+    let place : i + 1 + k ≡ i + suc k = omega arith in
+    subst (λ (m : ℕ). ValidJob (getD xs m noJob)) place (valid-entry xs (i + 1) k n (v .1) (le-of-suc-le-suc h))
+
+pub job-valid-at : (p : Profile) (k : ℕ) → Valid p → k < p .n → ValidJob (getD (p .jobs) k noJob)
+job-valid-at p k v h = rw (zero-add k) at (valid-entry (p .jobs) 0 k (p .n) (v .jobs) h)

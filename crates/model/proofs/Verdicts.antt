@@ -1,17 +1,17 @@
 -- Laws of verdicts: which of two comes first, and what the `else` of `let Verdict::Sound = v else` knows of v.
 -- Assumes nothing.
-use mathlib.Core.Path.{_≡_, refl, _∙_, ap, subst}
+use mathlib.Core.Path.{_≡_, refl, sym, _∙_, ap, subst}
 use mathlib.Core.List.{List, [], _∷_}
 use mathlib.Core.Bool.{Bool, true, false}
 use lib.Dec.{T, eqb, ltb}
-use borrow.Author.Tests.{eqb-true, eqb-false}
+use borrow.Author.Tests.{eqb-true, eqb-false, ne-eqb}
 use Prim.Native.Nat.{ℕ, _+_, _-_, _≤_, _<_}
 use lib.ListN.{getD}
 use types.Run.{OneOf, miss}
 use denote.Enum.Declared.{tagOf}
 use Rattle.model.specs.declared.Verdict.{Verdict}
 use Rattle.model.specs.declared.Verdict.the-variants.{Sound, NoBytes, Edition, JobCount, Length, Interval, Stiffness, Spare, Pages, NoPeriods, Budget, Room, Row, Periods}
-use Rattle.model.specs.Model.{numberOf, refuseIf, orElse, entries, firstRefused}
+use Rattle.model.specs.Model.{numberOf, refuseIf, orElse, ifSound, entries, firstRefused}
 use Rattle.model.proofs.Verdict.{the-type}
 use Rattle.model.proofs.Entries.{entries-step, entries-end}
 
@@ -24,26 +24,42 @@ pub sound-passes : {v a : Verdict} (rest : Verdict) → v ≡ a → v ≡ Sound 
 unfolding orElse refuseIf
 sound-passes rest e s = rw (← e, s)
 
-refused-first : (v rest : Verdict) → OneOf refusals (tagOf the-type v) → v ≡ orElse v rest
-unfolding orElse refuseIf
-refused-first Sound rest h = absurd (miss refusals 0 tt h)
-refused-first NoBytes rest h = refl
-refused-first Edition rest h = refl
-refused-first JobCount rest h = refl
-refused-first Length rest h = refl
-refused-first (Interval k) rest h = refl
-refused-first (Stiffness k) rest h = refl
-refused-first (Spare k) rest h = refl
-refused-first (Pages k) rest h = refl
-refused-first NoPeriods rest h = refl
-refused-first (Budget b) rest h = refl
-refused-first (Room k) rest h = refl
-refused-first (Row k) rest h = refl
-refused-first (Periods k) rest h = refl
+-- a refusal has a number
+abbrev pub Refuses : Verdict → Type 0
+Refuses v = T (ltb 0 (numberOf v))
+
+pub refuses : (v : Verdict) → OneOf refusals (tagOf the-type v) → Refuses v
+refuses Sound h = absurd (miss refusals 0 tt h)
+refuses NoBytes h = tt
+refuses Edition h = tt
+refuses JobCount h = tt
+refuses Length h = tt
+refuses (Interval k) h = tt
+refuses (Stiffness k) h = tt
+refuses (Spare k) h = tt
+refuses (Pages k) h = tt
+refuses NoPeriods h = tt
+refuses (Budget b) h = tt
+refuses (Room k) h = tt
+refuses (Row k) h = tt
+refuses (Periods k) h = tt
+
+not-zero : (v : Verdict) → Refuses v → eqb (numberOf v) 0 ≡ false
+not-zero v h = ne-eqb (numberOf v) 0 (λ e. subst (λ (n : ℕ). T (ltb 0 n)) e h)
 
 -- v, told to be a, is a refusal: it stands before whatever would come after it
 pub refused-stays : {v a : Verdict} (rest : Verdict) → v ≡ a → OneOf refusals (tagOf the-type v) → v ≡ orElse a rest
-refused-stays {v} rest e h = refused-first v rest h ∙ ap (λ (w : Verdict). orElse w rest) e
+unfolding orElse refuseIf
+refused-stays {v} rest e h = sym (rw (← e, not-zero v (refuses v h)))
+
+-- what stands beside a verdict v
+pub beside-sound : {A : Type 0} {v : Verdict} (answer none : A) → Sound ≡ v → answer ≡ ifSound v answer none
+unfolding ifSound
+beside-sound answer none e = rw (← e)
+
+pub beside-refusal : {A : Type 0} {v w : Verdict} (answer none : A) → Refuses v → v ≡ w → none ≡ ifSound w answer none
+unfolding ifSound
+beside-refusal {v} answer none h e = sym (rw (← e, not-zero v h))
 
 -- judging the entries from place k to place n, one by one
 module _ {A : Type 0} (judgeOne : A → ℕ → Verdict) (d : A) (xs : List A) (k n : ℕ) where

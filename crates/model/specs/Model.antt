@@ -3,7 +3,7 @@
 -- Assumes nothing.
 use mathlib.Core.Path.{_≡_}
 use mathlib.Core.List.{List, [], _∷_}
-use mathlib.Core.Bool.{Bool, true, false}
+use mathlib.Core.Bool.{Bool, true, false, cond}
 use Prim.Native.Nat.{ℕ, zero, suc, _+_, _*_, _-_, _/_, _%_, _^_, _≤_, _<_}
 use lib.ListN.{getD}
 use lib.Dec.{eqb, ltb}
@@ -179,6 +179,10 @@ refuseIf false refusal rest = rest
 -- The first verdict if it is a refusal, else the second.
 unfoldable pub orElse : Verdict → Verdict → Verdict
 orElse v rest = refuseIf (eqb (numberOf v) 0) rest v
+
+-- What stands beside a verdict: the answer where it is sound, and `none` beside a refusal (Refusal numbers).
+unfoldable pub ifSound : {A : Type 0} → Verdict → A → A → A
+ifSound v answer none = cond (eqb (numberOf v) 0) answer none
 
 -- The first refusal as the entries of a list are judged one by one, each with its number, the first one's being k + 1.
 unfoldable pub firstRefused : {A : Type 0} → (A → ℕ → Verdict) → ℕ → List A → Verdict

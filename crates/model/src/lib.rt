@@ -53,6 +53,12 @@ pub enum Verdict {
     Periods(u32),
 }
 
+// What an operation that fills a lent buffer answers: how many bytes or rows it wrote, 0 beside a refusal.
+pub struct Counted {
+    pub verdict: Verdict,
+    pub count: u64,
+}
+
 // The refusal's number, 0 where there is none.
 pub fn number(v: Verdict) -> u32
     ensures { λ r. ⌜ r ≡ numberOf v ⌝ }
