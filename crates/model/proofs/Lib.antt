@@ -1,5 +1,7 @@
+pub mod Bounds
 pub mod Entries
 pub mod Numbers
 pub mod OneOutcome
+pub mod Rounding
 pub mod Validity
 pub mod Verdicts

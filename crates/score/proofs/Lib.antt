@@ -1,0 +1,3 @@
+pub mod OneOutcome
+pub mod Permission
+pub mod Sums

@@ -1,0 +1,88 @@
+-- 13 is given exactly when the periods are not permitted: each test that does not hold is one of the three conditions on a period.
+-- Assumes nothing.
+use mathlib.Core.Path.{_≡_, refl, sym, _∙_, ap₂, subst}
+use mathlib.Core.List.{List, [], _∷_}
+use Prim.Native.Nat.{ℕ, zero, suc, _+_, _-_, _≤_, _<_}
+use native.Mathlib.Nat.{zero-add, add-zero, suc-ne-zero, suc-inj, not-suc-le-zero, le-of-suc-le-suc}
+use native.Mathlib.Omega.{arith}
+use lib.ListN.{length, getD}
+use borrow.Author.Tests.{ltb-false, eqb-true, not-false, le-ltb, eq-eqb}
+use Rattle.model.specs.declared.Seconds.{Seconds}
+use Rattle.model.specs.declared.Job.{Job}
+use Rattle.model.specs.declared.Profile.{Profile}
+use Rattle.model.specs.declared.Verdict.the-variants.{Sound}
+use Rattle.model.specs.Model.{seconds, noJob, entries, jobsOf, periodsOf, ValidJob, Valid, Allowed, PermittedAfter, Permitted, refuseIf, orElse}
+use Rattle.model.proofs.Entries.{entries-step, entries-end}
+use Rattle.model.proofs.Validity.{job-valid-at}
+use Rattle.model.proofs.Verdicts.{test-passed, both-sound, sound-passes}
+use Rattle.score.specs.Scoring.{judgePeriod, firstUnpermitted}
+
+pub period-allowed : (j : Job) (before t : Seconds) (k : ℕ) → judgePeriod j before t k ≡ Sound → Allowed j before t
+unfolding judgePeriod
+period-allowed j before t k e =
+    let a = test-passed _ _ _ tt e in
+    let b = test-passed _ _ _ tt (a .1) in
+    let d = test-passed _ _ _ tt (b .1) in
+    record { above = ltb-false _ _ (a .0); below = ltb-false _ _ (b .0); multiple = eqb-true _ _ (not-false _ (d .0)) }
+
+allowed-sound : (j : Job) (before t : Seconds) (k : ℕ) → Allowed j before t → judgePeriod j before t k ≡ Sound
+unfolding judgePeriod refuseIf
+allowed-sound j before t k a = simp (le-ltb (t .0) (j .lo .0) (a .above), le-ltb (j .hi .0) (t .0) (a .below), eq-eqb _ 0 (a .multiple))
+
+-- no period is refused: all are permitted
+pub sound-permitted : (k : ℕ) (before : Seconds) (js : List Job) (ts : List Seconds) → length js ≡ length ts → firstUnpermitted k before js ts ≡ Sound → PermittedAfter before js ts
+unfolding firstUnpermitted
+sound-permitted k before [] [] h e = tt
+sound-permitted k before [] (t ∷ ts) h e = absurd (suc-ne-zero (length ts) (sym h))
+sound-permitted k before (j ∷ js) [] h e = absurd (suc-ne-zero (length js) h)
+sound-permitted k before (j ∷ js) (t ∷ ts) h e =
+    let both = both-sound (judgePeriod j before t (k + 1)) e in
+    (period-allowed j before t (k + 1) (both .0), sound-permitted (k + 1) t js ts (suc-inj h) (both .1))
+
+-- and the other way round
+pub permitted-sound : (k : ℕ) (before : Seconds) (js : List Job) (ts : List Seconds) → PermittedAfter before js ts → firstUnpermitted k before js ts ≡ Sound
+unfolding firstUnpermitted
+permitted-sound k before [] [] h = refl
+permitted-sound k before [] (t ∷ ts) h = absurd h
+permitted-sound k before (j ∷ js) [] h = absurd h
+permitted-sound k before (j ∷ js) (t ∷ ts) h =
+    sound-passes {v = judgePeriod j before t (k + 1)} _ refl (allowed-sound j before t (k + 1) (h .0)) ∙ permitted-sound (k + 1) t js ts (h .1)
+
+-- a period of a permitted list lies in its job's interval
+record InInterval (j : Job) (t : Seconds) : Type 0 where
+  above : j .lo .0 ≤ t .0
+  below : t .0 ≤ j .hi .0
+
+within-from : (xs : List Job) (ts : List Seconds) (i k n : ℕ) (before : Seconds) → PermittedAfter before (entries noJob xs i n) (entries (seconds 0) ts i n) → k < n → InInterval (getD xs (i + k) noJob) (getD ts (i + k) (seconds 0))
+unfolding entries
+within-from xs ts i k zero before h less = absurd (not-suc-le-zero less)
+within-from xs ts i zero (suc n) before h less = rw (add-zero i) (record { above = h .0 .above; below = h .0 .below })
+within-from xs ts i (suc k) (suc n) before h less =
+    let place : i + 1 + k ≡ i + suc k = omega arith in
+    subst (λ (m : ℕ). InInterval (getD xs m noJob) (getD ts m (seconds 0))) place (within-from xs ts (i + 1) k n (getD ts i (seconds 0)) (h .1) (le-of-suc-le-suc less))
+
+within-interval : (xs : List Job) (ts : List Seconds) (k n : ℕ) (before : Seconds) → PermittedAfter before (entries noJob xs 0 n) (entries (seconds 0) ts 0 n) → k < n → InInterval (getD xs k noJob) (getD ts k (seconds 0))
+within-interval xs ts k n before h less = rw (zero-add k) at (within-from xs ts 0 k n before h less)
+
+-- what is known of a valid profile's job at a permitted period
+pub record Scorable (j : Job) (t : Seconds) : Type 0 where
+  pub valid : ValidJob j
+  pub above : j .lo .0 ≤ t .0
+  pub from : 1 ≤ t .0
+  pub to : t .0 ≤ 3600
+
+pub scorable : (p : Profile) (ts : List Seconds) (k : ℕ) → Valid p → Permitted (jobsOf p) (periodsOf p ts) → k < p .n → Scorable (getD (p .jobs) k noJob) (getD ts k (seconds 0))
+scorable p ts k v h less =
+    let j = job-valid-at p k v less in
+    let i = within-interval (p .jobs) ts k (p .n) (seconds 1) h less in
+    record { valid = j; above = i .above; from = omega (arith, j .lo-from, i .above); to = omega (arith, j .hi-to, i .below) }
+
+-- judging one period after the other
+module _ (before : Seconds) (xs : List Job) (ts : List Seconds) (k n : ℕ) where
+  pub one-judged : k < n → firstUnpermitted k before (entries noJob xs k (n - k)) (entries (seconds 0) ts k (n - k)) ≡ orElse (judgePeriod (getD xs k noJob) before (getD ts k (seconds 0)) (k + 1)) (firstUnpermitted (k + 1) (getD ts k (seconds 0)) (entries noJob xs (k + 1) (n - (k + 1))) (entries (seconds 0) ts (k + 1) (n - (k + 1))))
+  unfolding firstUnpermitted
+  one-judged h = ap₂ (firstUnpermitted k before) (entries-step noJob xs k n h) (entries-step (seconds 0) ts k n h)
+
+  pub all-judged : n ≤ k → firstUnpermitted k before (entries noJob xs k (n - k)) (entries (seconds 0) ts k (n - k)) ≡ Sound
+  unfolding firstUnpermitted
+  all-judged h = ap₂ (firstUnpermitted k before) (entries-end noJob xs k n h) (entries-end (seconds 0) ts k n h)
