@@ -2,12 +2,12 @@
 -- Assumes nothing.
 use mathlib.Core.Path.{_≡_, refl, sym, _∙_, ap, ap₂, subst}
 use mathlib.Core.List.{List, [], _∷_, _++_}
-use Prim.Native.Nat.{ℕ, zero, suc, _+_, _*_, _/_, _%_, _^_, _≤_, _<_}
-use native.Mathlib.Nat.{add-assoc, add-comm, mul-assoc, add-mul, zero-add, add-zero, div-one, mod-one, mul-one, mod-lt, mul-suc, suc-inj, suc-ne-zero, div-div-eq-div-mul, mul-comm}
+use Prim.Native.Nat.{ℕ, zero, suc, _+_, _*_, _/_, _%_, _^_, _<_}
+use native.Mathlib.Nat.{mod-lt, suc-inj, suc-ne-zero}
 use native.Mathlib.Omega.{arith}
 use lib.Arith.{digits-lt, lt-one}
 use lib.Pow.{pow-pos, pow-add, shr-lt, split, high, low, field, mod-mod-pow}
-use lib.ListN.{length, replicate, length-append}
+use lib.ListN.{length, replicate}
 use Rattle.codec.specs.Packing.{bits, pack, unpack, recut}
 
 -- as many fields as widths, each within its width

@@ -2,21 +2,20 @@
 -- Assumes nothing.
 use mathlib.Core.Path.{_≡_, refl, sym, _∙_, ap, ap₂, subst}
 use mathlib.Core.List.{List, [], _∷_, _++_, map}
-use mathlib.Core.Bool.{Bool, true, false}
-use Prim.Native.Nat.{ℕ, zero, suc, _+_, _*_, _-_, _≤_, _<_}
+use Prim.Native.Nat.{ℕ, zero, suc, _+_, _*_, _≤_}
 use native.Mathlib.Nat.{zero-add, suc-add, suc-ne-zero}
 use native.Mathlib.Omega.{arith}
 use lib.ListN.{length, getD, take, drop, length-append, length-map, take-append-drop, length-drop}
-use lib.Seq.{take-at, drop-at, length-take-le}
+use lib.Seq.{take-at, drop-at}
 use borrow.Author.Tests.{eq-eqb, ne-eqb, le-ltb, eqb-true, not-false}
 use Rattle.model.specs.declared.Job.{Job}
 use Rattle.model.specs.declared.Profile.{Profile}
 use Rattle.model.specs.declared.Counted.{Counted}
 use Rattle.model.specs.declared.Verdict.{Verdict}
 use Rattle.model.specs.declared.Verdict.the-variants.{Sound}
-use Rattle.model.specs.Model.{noJob, ValidJob, ValidJobs, Valid, entries, jobsOf, refuseIf, orElse, ifSound, firstRefused, judgeIntervalAndStiffness, verdictOf}
+use Rattle.model.specs.Model.{noJob, ValidJob, ValidJobs, Valid, entries, jobsOf, refuseIf, ifSound, firstRefused, judgeIntervalAndStiffness, verdictOf}
 use Rattle.model.proofs.Entries.{length-entries, entries-front}
-use Rattle.model.proofs.Validity.{InRange, in-range, in-range-sound, sound-valid, valid-sound}
+use Rattle.model.proofs.Validity.{in-range, in-range-sound, sound-valid, valid-sound}
 use Rattle.model.proofs.Verdicts.{test-passed, both-sound, sound-passes}
 use Rattle.codec.specs.declared.Reading.{Reading}
 use Rattle.codec.specs.Packing.{recut}

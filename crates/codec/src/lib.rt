@@ -48,7 +48,7 @@ pub fn read_profile(bytes: &[u8]) -> Reading
         };
     };
     Reading {
-        verdict: Verdict::Sound,
+        verdict: w,
         profile: values(bytes, n),
     }
 }

@@ -1,6 +1,6 @@
 -- The one bound behind every sum: a job runs at most once a second, with at most 65,534 pages and a stiffness of at most 32.
 -- So eight jobs need at most 1,887,379,200 pages per hour and lose less than 2^64. Assumes nothing.
-use Prim.Native.Nat.{ℕ, _+_, _*_, _-_, _/_, _^_, _≤_, _<_}
+use Prim.Native.Nat.{ℕ, _*_, _-_, _/_, _^_, _≤_, _<_}
 use native.Mathlib.Omega.{arith}
 use native.Mathlib.Nat.{le-trans, mul-le-mul, mul-le-mul-left, pow-le-pow-left, pow-suc, pow-zero, one-mul, div-le-self, div-mul-le-self, le-div-iff-mul-le}
 use mathlib.Core.Path.{_≡_, _∙_, ap}

@@ -1,8 +1,7 @@
 -- A profile given as values is judged sound exactly when it is valid: each test that did not hold is a bound, and the other way round.
 -- Assumes nothing.
-use mathlib.Core.Path.{_≡_, refl, _∙_, ap, subst}
+use mathlib.Core.Path.{_≡_, refl, _∙_, subst}
 use mathlib.Core.List.{List, [], _∷_}
-use mathlib.Core.Bool.{Bool, true, false}
 use Prim.Native.Nat.{ℕ, zero, suc, _+_, _≤_, _<_}
 use native.Mathlib.Nat.{zero-add, add-zero, not-suc-le-zero, le-of-suc-le-suc}
 use lib.ListN.{getD}
@@ -10,9 +9,8 @@ use native.Mathlib.Omega.{arith}
 use borrow.Author.Tests.{eqb-false, ltb-false, le-ltb, ne-eqb}
 use Rattle.model.specs.declared.Job.{Job}
 use Rattle.model.specs.declared.Profile.{Profile}
-use Rattle.model.specs.declared.Verdict.{Verdict}
 use Rattle.model.specs.declared.Verdict.the-variants.{Sound}
-use Rattle.model.specs.Model.{ValidJob, ValidJobs, Valid, noJob, entries, jobsOf, refuseIf, orElse, firstRefused, judgeIntervalAndStiffness, judgeJob, verdictOf}
+use Rattle.model.specs.Model.{ValidJob, ValidJobs, Valid, noJob, entries, jobsOf, refuseIf, firstRefused, judgeIntervalAndStiffness, judgeJob, verdictOf}
 use Rattle.model.proofs.Verdicts.{test-passed, both-sound, sound-passes}
 
 -- what 5 and 6 leave

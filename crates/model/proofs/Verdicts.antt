@@ -1,6 +1,6 @@
 -- Laws of verdicts: which of two comes first, and what the `else` of `let Verdict::Sound = v else` knows of v.
 -- Assumes nothing.
-use mathlib.Core.Path.{_≡_, refl, sym, _∙_, ap, subst}
+use mathlib.Core.Path.{_≡_, refl, sym, ap, subst}
 use mathlib.Core.List.{List, [], _∷_}
 use mathlib.Core.Bool.{Bool, true, false}
 use lib.Dec.{T, eqb, ltb}

@@ -1,7 +1,7 @@
 -- The sums behind need and loss, one job at a time, and the last period as an entry.
 -- Assumes nothing.
 use mathlib.Core.Path.{_≡_, sym, _∙_, ap, ap₂}
-use mathlib.Core.List.{List, [], _∷_}
+use mathlib.Core.List.{List}
 use Prim.Native.Nat.{ℕ, zero, suc, _+_, _*_, _-_, _/_, _≤_, _<_}
 use native.Mathlib.Nat.{add-zero, zero-add, add-assoc, mul-add, mul-one, mul-le-mul, mul-le-mul-left, div-le-self}
 use native.Mathlib.Omega.{arith}

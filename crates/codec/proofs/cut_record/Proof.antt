@@ -2,7 +2,6 @@
 -- Assumes nothing.
 use native.Mathlib.Nat.{div-one}
 use Rattle.codec.specs.Packing.{unpack, bits}
-use native.Mathlib.Omega.{arith}
 use borrow.Author.Needs.{needs}
 use Rattle.codec.proofs.cut_record.Statement.{statement}
 use Rattle.codec.proofs.cut_record.Tie as tie

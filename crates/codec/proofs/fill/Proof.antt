@@ -2,7 +2,7 @@
 -- Assumes nothing.
 use Prim.Native.Nat.{ℕ, _+_, _*_, _-_, _≤_}
 use lib.ListN.{length, set, length-set}
-use mathlib.Core.Path.{_≡_, refl, _∙_, sym, ap, subst}
+use mathlib.Core.Path.{_≡_, refl, _∙_, subst}
 use Rattle.model.specs.Model.{noJob, entries}
 use Rattle.model.proofs.Validity.{job-valid-at}
 use Rattle.codec.proofs.Records.{Filled, nothing-filled, one-filled, all-filled}

@@ -2,7 +2,6 @@
 -- Assumes nothing.
 use mathlib.Core.Path.{sym}
 use Rattle.codec.proofs.Records.{count-is}
-use native.Mathlib.Omega.{arith}
 use borrow.Author.Needs.{needs}
 use Rattle.codec.proofs.job_count.Statement.{statement}
 use Rattle.codec.proofs.job_count.Tie as tie

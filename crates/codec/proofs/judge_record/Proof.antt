@@ -4,7 +4,6 @@ use borrow.Author.Tests.{eq-eqb, ne-eqb}
 use mathlib.Core.Path.{_∙_, sym}
 use Rattle.model.specs.Model.{refuseIf}
 use Rattle.model.proofs.Verdicts.{sound-passes, refused-stays}
-use native.Mathlib.Omega.{arith}
 use borrow.Author.Needs.{needs}
 use Rattle.codec.proofs.judge_record.Statement.{statement}
 use Rattle.codec.proofs.judge_record.Tie as tie

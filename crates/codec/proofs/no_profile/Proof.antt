@@ -1,7 +1,6 @@
 -- `codec::no_profile` meets its contract: eight times the job of zeros.
 -- Assumes nothing.
 use Rattle.codec.specs.Layout.{eightJobs}
-use native.Mathlib.Omega.{arith}
 use borrow.Author.Needs.{needs}
 use Rattle.codec.proofs.no_profile.Statement.{statement}
 use Rattle.codec.proofs.no_profile.Tie as tie

@@ -3,7 +3,6 @@
 use native.Mathlib.Omega.{arith}
 use borrow.Author.Needs.{needs}
 use mathlib.Core.Path.{_≡_, subst}
-use Prim.Native.Nat.{ℕ}
 use Rattle.codec.proofs.Words.{Stored, nothing-stored, one-stored, all-stored}
 use Rattle.codec.proofs.put_word.Statement.{statement}
 use Rattle.codec.proofs.put_word.Tie as tie

@@ -78,7 +78,7 @@ returns-3 c =
     let s = c .before .before .before in
     let v = sym (c .before .enum-told2 .given .1) ∙ decided s in
     let count = s .before .job-count .ensures .0 in
-    record { verdict = v; profile = c .values .ensures ∙ ap (profileOf (s .before .before .before .before .before .before .args .bytes .now)) count ∙ beside-sound _ _ v }
+    record { verdict = decided s; profile = c .values .ensures ∙ ap (profileOf (s .before .before .before .before .before .before .args .bytes .now)) count ∙ beside-sound _ _ v }
 
 pub read-profile-spec : {M : Type 1} → statement M
 read-profile-spec =

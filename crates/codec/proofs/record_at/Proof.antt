@@ -5,7 +5,6 @@ use mathlib.Core.Path.{_∙_, ap}
 use Rattle.codec.specs.Packing.{unpack, recut}
 use Rattle.codec.specs.Layout.{jobWidths}
 use Rattle.codec.specs.Fields.{recordOf}
-use native.Mathlib.Omega.{arith}
 use borrow.Author.Needs.{needs}
 use Rattle.codec.proofs.record_at.Statement.{statement}
 use Rattle.codec.proofs.record_at.Tie as tie

@@ -13,7 +13,6 @@ use Rattle.model.specs.Model.{refuseIf}
 use Rattle.model.proofs.Verdicts.{Refuses, refuses, refused-stays, sound-passes, beside-sound, beside-refusal}
 use Rattle.model.proofs.Validity.{sound-valid}
 use Rattle.codec.specs.Layout.{profileLength, writeVerdict, Writes}
-use native.Mathlib.Omega.{arith}
 use borrow.Author.Needs.{needs}
 use Rattle.codec.proofs.write_profile.Statement.{statement}
 use Rattle.codec.proofs.write_profile.Tie as tie

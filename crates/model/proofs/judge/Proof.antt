@@ -2,7 +2,7 @@
 -- Assumes nothing.
 use Prim.Native.Nat.{_+_, _≤_, _-_}
 use lib.ListN.{getD}
-use mathlib.Core.Path.{_≡_, _∙_, sym, ap}
+use mathlib.Core.Path.{_≡_, _∙_, sym}
 use native.Mathlib.Nat.{sub-zero}
 use native.Mathlib.Omega.{arith}
 use borrow.Author.Needs.{needs}

@@ -2,7 +2,7 @@
 -- Assumes nothing.
 use borrow.Author.Needs.{needs}
 use borrow.Author.Tests.{lt-ltb, le-ltb}
-use mathlib.Core.Path.{_≡_, _∙_, sym, ap}
+use mathlib.Core.Path.{_≡_}
 use Rattle.model.specs.declared.Verdict.{Verdict}
 use Rattle.model.specs.Model.{judgeJob, judgeIntervalAndStiffness, refuseIf, orElse}
 use Rattle.model.proofs.Verdicts.{sound-passes, refused-stays}

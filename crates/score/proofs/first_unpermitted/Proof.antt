@@ -1,7 +1,7 @@
 -- `score::first_unpermitted` meets its contract: before each turn the verdict is that of the periods from the k-th on.
 -- Assumes nothing.
 use Prim.Native.Nat.{ℕ, _+_, _-_, _≤_}
-use mathlib.Core.Path.{_≡_, _∙_, sym, ap}
+use mathlib.Core.Path.{_≡_, _∙_, sym}
 use mathlib.Core.List.{List}
 use native.Mathlib.Nat.{sub-zero}
 use lib.ListN.{getD}

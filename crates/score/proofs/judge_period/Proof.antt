@@ -3,7 +3,6 @@
 use borrow.Author.Tests.{lt-ltb, le-ltb, eq-eqb, ne-eqb}
 use Rattle.model.specs.Model.{refuseIf}
 use Rattle.score.specs.Scoring.{judgePeriod}
-use native.Mathlib.Omega.{arith}
 use borrow.Author.Needs.{needs}
 use Rattle.score.proofs.judge_period.Statement.{statement}
 use Rattle.score.proofs.judge_period.Tie as tie

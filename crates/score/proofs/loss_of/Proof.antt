@@ -1,7 +1,7 @@
 -- `score::loss_of` meets its contract: the sum so far and the loss of the jobs still to come are the whole loss.
 -- Assumes nothing.
 use Prim.Native.Nat.{ℕ, _+_, _-_, _≤_}
-use mathlib.Core.Path.{_≡_, _∙_, sym, ap}
+use mathlib.Core.Path.{_∙_, sym, ap}
 use native.Mathlib.Nat.{le-trans, le-of-eq, sub-zero}
 use lib.ListN.{getD}
 use Rattle.model.specs.Model.{seconds, noJob, entries, jobsOf, periodsOf, loss}

@@ -45,7 +45,7 @@ mul-t14 : tie.Need-mul-t14
 mul-t14 c = omega (arith, few c)
 
 sub-t15 : tie.Need-sub-t15
-sub-t15 c = last (c .before .before .before .before) .from
+sub-t15 c = omega (arith, last (c .before .before .before .before) .from)
 
 add-t16 : tie.Need-add-t16
 add-t16 c = omega (arith, few c, last (c .before .before .before .before) .to)

@@ -11,7 +11,6 @@ use Rattle.model.proofs.Validity.{sound-valid}
 use Rattle.model.proofs.Verdicts.{Refuses, refuses, refused-stays, sound-passes, beside-sound, beside-refusal}
 use Rattle.score.specs.Scoring.{scoreVerdict, Scores}
 use Rattle.score.proofs.Permission.{sound-permitted}
-use native.Mathlib.Omega.{arith}
 use borrow.Author.Needs.{needs}
 use Rattle.score.proofs.score.Statement.{statement}
 use Rattle.score.proofs.score.Tie as tie
