@@ -1,4 +1,5 @@
 pub mod Headers
+pub mod Numbers
 pub mod OneOutcome
 pub mod Packing
 pub mod Records

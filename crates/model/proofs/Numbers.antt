@@ -1,4 +1,5 @@
--- The definitions of need and loss, tried on document 01's own numbers: profile A's first and last row, two jobs at 7 seconds, no pages.
+-- The definitions of need and loss, tried on document 01's own numbers: profile A's first and last row, one and two
+-- jobs at 7 seconds, no pages; and a stiffness other than 1.
 -- Each is computed by the checker. Assumes nothing.
 use mathlib.Core.Path.{_≡_, refl}
 use mathlib.Core.List.{List, [], _∷_}
@@ -39,3 +40,12 @@ twice-seven = refl
 no-pages : need (job 3600 3600 0 0 1 ∷ []) (seconds 3600 ∷ []) ≡ pagesPerHour 0
 unfolding need pagesIn lastOf job
 no-pages = refl
+
+once-seven : need (job 7 7 1 0 1 ∷ []) (seconds 7 ∷ []) ≡ pagesPerHour 515
+unfolding need pagesIn lastOf job
+once-seven = refl
+
+-- 3 times the square of 1,028 less 102
+stiff : loss (job 7 70 1 1 3 ∷ []) (seconds 70 ∷ []) ≡ 2572428
+unfolding loss jobLoss rate job
+stiff = refl

@@ -1,6 +1,6 @@
 -- What a plan is and when it is right, in the order of document 01. Every public contract of the planner is stated with these
--- definitions; each comment ends in the place of its rule there. Laws about them are in proofs/, which no contract cites.
--- Assumes nothing.
+-- definitions; a comment that renders a rule ends in the rule's place there. Laws about them are in proofs/, which no contract
+-- cites. Need, loss and permitted periods are meant for the jobs of a valid profile. Assumes nothing.
 use mathlib.Core.Path.{_≡_}
 use mathlib.Core.List.{List, [], _∷_}
 use mathlib.Core.Bool.{Bool, true, false, cond}
@@ -16,6 +16,7 @@ use Rattle.model.specs.declared.Verdict.the-variants.{Sound, NoBytes, Ed
 
 -- Quantities
 
+-- A number of seconds, and a number of pages per hour.
 abbrev pub seconds : ℕ → Seconds
 seconds t = record { 0 = t }
 
@@ -53,6 +54,7 @@ pub record ValidJob (j : Job) : Type 0 where
   pub stiffness-from : 1 ≤ j .stiffness
   pub stiffness-to : j .stiffness ≤ 32
 
+-- Each of these jobs is valid.
 abbrev pub ValidJobs : List Job → Type 0
 ValidJobs [] = Unit {0}
 ValidJobs (j ∷ js) = ValidJob j × ValidJobs js

@@ -143,7 +143,7 @@ fn judge_job(j: Job, k: u32) -> Verdict
     Verdict::Sound
 }
 
-// 5 and 6 for the job numbered k: what profiles as values and as bytes are judged by alike.
+// 5 and 6 for a job, whose number k, from 1, is the refusal's detail: what values and bytes are judged by alike.
 pub fn judge_interval_and_stiffness(j: Job, k: u32) -> Verdict
     ensures { λ r. ⌜ r ≡ judgeIntervalAndStiffness j k ⌝ }
 {

@@ -1,17 +1,21 @@
--- 13 is given exactly when the periods are not permitted: each test that does not hold is one of the three conditions on a period.
+-- The periods are permitted, or 13 names the first that is not: each test of a period is one of its three conditions.
 -- Assumes nothing.
-use mathlib.Core.Path.{_≡_, refl, sym, _∙_, ap₂, subst}
+use mathlib.Core.Path.{_≡_, refl, sym, _∙_, ap, ap₂, subst}
 use mathlib.Core.List.{List, [], _∷_}
-use Prim.Native.Nat.{ℕ, zero, suc, _+_, _-_, _≤_, _<_}
+use mathlib.Core.Bool.{Bool, true, false, not}
+use mathlib.Core.Logic.{_⊎_, inl, inr}
+use lib.Dec.{eqb, ltb}
+use Prim.Native.Nat.{ℕ, zero, suc, _+_, _-_, _%_, _≤_, _<_}
 use native.Mathlib.Nat.{zero-add, add-zero, suc-ne-zero, suc-inj, not-suc-le-zero, le-of-suc-le-suc}
 use native.Mathlib.Omega.{arith}
 use lib.ListN.{length, getD}
-use borrow.Author.Tests.{ltb-false, eqb-true, not-false, le-ltb, eq-eqb}
+use borrow.Author.Tests.{ltb-false, eqb-true, eqb-false, not-false, le-ltb, eq-eqb}
 use Rattle.model.specs.declared.Seconds.{Seconds}
 use Rattle.model.specs.declared.Job.{Job}
 use Rattle.model.specs.declared.Profile.{Profile}
-use Rattle.model.specs.declared.Verdict.the-variants.{Sound}
-use Rattle.model.specs.Model.{seconds, noJob, entries, jobsOf, periodsOf, ValidJob, Valid, Allowed, PermittedAfter, Permitted, refuseIf, orElse}
+use Rattle.model.specs.declared.Verdict.{Verdict}
+use Rattle.model.specs.declared.Verdict.the-variants.{Sound, Periods}
+use Rattle.model.specs.Model.{seconds, noJob, entries, jobsOf, periodsOf, ValidJob, Valid, Allowed, PermittedAfter, Permitted, refuseIf, orElse, numberOf}
 use Rattle.model.proofs.Entries.{entries-step, entries-end}
 use Rattle.model.proofs.Validity.{job-valid-at}
 use Rattle.model.proofs.Verdicts.{test-passed, both-sound, sound-passes}
@@ -47,6 +51,40 @@ permitted-sound k before [] (t ∷ ts) h = absurd h
 permitted-sound k before (j ∷ js) [] h = absurd h
 permitted-sound k before (j ∷ js) (t ∷ ts) h =
     sound-passes {v = judgePeriod j before t (k + 1)} _ refl (allowed-sound j before t (k + 1) (h .0)) ∙ permitted-sound (k + 1) t js ts (h .1)
+
+-- 13 names the first job whose period is not allowed after the one before: those before it are
+pub data FirstOut : ℕ → Seconds → List Job → List Seconds → Verdict → Type 0 where
+  here : {k : ℕ} {before : Seconds} {j : Job} {js : List Job} {t : Seconds} {ts : List Seconds} → (Allowed j before t → ⊥) → FirstOut k before (j ∷ js) (t ∷ ts) (Periods (k + 1))
+  later : {k : ℕ} {before : Seconds} {j : Job} {js : List Job} {t : Seconds} {ts : List Seconds} {v : Verdict} → Allowed j before t → FirstOut (k + 1) t js ts v → FirstOut k before (j ∷ js) (t ∷ ts) v
+
+period-cases : (j : Job) (before t : Seconds) (k : ℕ) → (judgePeriod j before t k ≡ Sound) ⊎ (judgePeriod j before t k ≡ Periods k)
+unfolding judgePeriod refuseIf
+period-cases j before t k = go (ltb (t .0) (j .lo .0)) (ltb (j .hi .0) (t .0)) (not (eqb (t .0 % before .0) 0))
+  where
+    go : (a b d : Bool) → (refuseIf a (Periods k) (refuseIf b (Periods k) (refuseIf d (Periods k) Sound)) ≡ Sound) ⊎ (refuseIf a (Periods k) (refuseIf b (Periods k) (refuseIf d (Periods k) Sound)) ≡ Periods k)
+    go true b d = inr refl
+    go false true d = inr refl
+    go false false true = inr refl
+    go false false false = inl refl
+
+refused-not-allowed : (j : Job) (before t : Seconds) (k : ℕ) → judgePeriod j before t k ≡ Periods k → Allowed j before t → ⊥
+refused-not-allowed j before t k e a = eqb-false 0 13 refl (ap numberOf (sym (allowed-sound j before t k a) ∙ e))
+
+refused-names : {v : Verdict} {k : ℕ} (rest : Verdict) → v ≡ Periods k → orElse v rest ≡ Periods k
+unfolding orElse refuseIf
+refused-names rest e = rw e
+
+pub permitted-or-first-out : (k : ℕ) (before : Seconds) (js : List Job) (ts : List Seconds) → length js ≡ length ts → PermittedAfter before js ts ⊎ FirstOut k before js ts (firstUnpermitted k before js ts)
+unfolding firstUnpermitted
+permitted-or-first-out k before [] [] h = inl tt
+permitted-or-first-out k before [] (t ∷ ts) h = absurd (suc-ne-zero (length ts) (sym h))
+permitted-or-first-out k before (j ∷ js) [] h = absurd (suc-ne-zero (length js) h)
+permitted-or-first-out k before (j ∷ js) (t ∷ ts) h = one-of (period-cases j before t (k + 1)) (permitted-or-first-out (k + 1) t js ts (suc-inj h))
+  where
+    one-of : (judgePeriod j before t (k + 1) ≡ Sound) ⊎ (judgePeriod j before t (k + 1) ≡ Periods (k + 1)) → PermittedAfter t js ts ⊎ FirstOut (k + 1) t js ts (firstUnpermitted (k + 1) t js ts) → PermittedAfter before (j ∷ js) (t ∷ ts) ⊎ FirstOut k before (j ∷ js) (t ∷ ts) (orElse (judgePeriod j before t (k + 1)) (firstUnpermitted (k + 1) t js ts))
+    one-of (inl e) (inl rest) = inl (period-allowed j before t (k + 1) e, rest)
+    one-of (inl e) (inr rest) = inr (subst (FirstOut k before (j ∷ js) (t ∷ ts)) (sym (sound-passes {v = judgePeriod j before t (k + 1)} _ refl e)) (later (period-allowed j before t (k + 1) e) rest))
+    one-of (inr e) rest = inr (subst (FirstOut k before (j ∷ js) (t ∷ ts)) (sym (refused-names _ e)) (here (refused-not-allowed j before t (k + 1) e)))
 
 -- a period of a permitted list lies in its job's interval
 record InInterval (j : Job) (t : Seconds) : Type 0 where

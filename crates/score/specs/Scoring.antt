@@ -22,7 +22,7 @@ judgePeriod j before t k =
 -- 13 for the first such job; the first of these is numbered k + 1.
 unfoldable pub firstUnpermitted : ℕ → Seconds → List Job → List Seconds → Verdict
 firstUnpermitted k before [] ts = Sound
-firstUnpermitted k before (j ∷ js) [] = Sound
+firstUnpermitted k before (j ∷ js) [] = Periods (k + 1)
 firstUnpermitted k before (j ∷ js) (t ∷ ts) = orElse (judgePeriod j before t (k + 1)) (firstUnpermitted (k + 1) t js ts)
 
 -- The profile's own verdict, then 13. The first job has no period before it: every number is a multiple of one second.
