@@ -6,6 +6,7 @@ use mathlib.Core.Bool.{Bool, true, false}
 use lib.Dec.{T, eqb, ltb}
 use borrow.Author.Tests.{eqb-true, eqb-false, ne-eqb}
 use Prim.Native.Nat.{ℕ, _+_, _-_, _≤_, _<_}
+use native.Mathlib.Omega.{arith}
 use lib.ListN.{getD}
 use types.Run.{OneOf, miss}
 use denote.Enum.Declared.{tagOf}
@@ -101,3 +102,19 @@ both-sound v {rest} e = go (eqb (numberOf v) 0) refl e
     go : (t : Bool) → eqb (numberOf v) 0 ≡ t → refuseIf t rest v ≡ Sound → (v ≡ Sound) × (rest ≡ Sound)
     go true z e′ = (sound-of-zero v (eqb-true _ 0 z), e′)
     go false z e′ = absurd (eqb-false _ 0 z (ap numberOf e′))
+
+pub number-small : (v : Verdict) → numberOf v ≤ 13
+number-small Sound = omega arith
+number-small NoBytes = omega arith
+number-small Edition = omega arith
+number-small JobCount = omega arith
+number-small Length = omega arith
+number-small (Interval k) = omega arith
+number-small (Stiffness k) = omega arith
+number-small (Spare k) = omega arith
+number-small (Pages k) = omega arith
+number-small NoPeriods = omega arith
+number-small (Budget b) = omega arith
+number-small (Room k) = omega arith
+number-small (Row k) = omega arith
+number-small (Periods k) = omega arith

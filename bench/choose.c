@@ -1,0 +1,115 @@
+/* Measures the choice against the same walk in C and against plain enumeration in C, on the same inputs in one run.
+ * Ends with status 1 where the answers differ or a bound is broken. */
+#define _POSIX_C_SOURCE 199309L
+#include <inttypes.h>
+#include <stdio.h>
+#include <string.h>
+#include <time.h>
+
+#include "charopleth.h"
+#include "reference.h"
+#include "walk.h"
+
+/* At most this many times the C walk, and at most a hundredth of enumeration. */
+static const double most_of_walk = 1.5, least_of_enumeration = 100;
+
+static double now(void)
+{
+    struct timespec t;
+    clock_gettime(CLOCK_PROCESS_CPUTIME_ID, &t);
+    return t.tv_sec + t.tv_nsec * 1e-9;
+}
+
+typedef uint64_t chooser(uint32_t, const uint32_t[40], uint32_t, uint64_t[10]);
+
+static double seconds_for(chooser *f, const uint32_t jobs[40], uint32_t budget, int times)
+{
+    uint64_t answer[10];
+    double start = now();
+    for (int i = 0; i < times; i++)
+        f(8, jobs, budget, answer);
+    return now() - start;
+}
+
+/* The best of several runs of each, by turns, so that what else the machine does falls on both. */
+static double ratio(const uint32_t jobs[40], uint32_t budget, double *each)
+{
+    int times = 1;
+    while (seconds_for(walk_choose, jobs, budget, times) < 0.02)
+        times *= 2;
+    double proved = 1e9, by_hand = 1e9;
+    for (int run = 0; run < 9; run++) {
+        double p = seconds_for(charopleth_choose, jobs, budget, times), h = seconds_for(walk_choose, jobs, budget, times);
+        proved = p < proved ? p : proved;
+        by_hand = h < by_hand ? h : by_hand;
+    }
+    *each = proved / times;
+    return proved / by_hand;
+}
+
+static int failed;
+
+static void measure(const char *name, const uint32_t jobs[40], uint32_t budget, int enumerated)
+{
+    uint64_t have[10] = {0}, want[10] = {0}, all[10] = {0};
+    uint64_t result = charopleth_choose(8, jobs, budget, have);
+    if (result != walk_choose(8, jobs, budget, want) || memcmp(have, want, sizeof have) != 0) {
+        printf("%s: the answers differ\n", name);
+        failed = 1;
+    }
+    double each, times = ratio(jobs, budget, &each);
+    printf("%-30s budget %10" PRIu32 "  %10.1f us  %5.2f x the walk in C", name, budget, each * 1e6, times);
+    if (times > most_of_walk)
+        failed = 1;
+    if (enumerated) {
+        double start = now();
+        uint64_t slow = reference_choose(8, jobs, budget, all, UINT64_MAX - 1);
+        double faster = (now() - start) / each;
+        printf("  1/%.0f of enumeration", faster);
+        if (slow != result || memcmp(have, all, sizeof have) != 0 || faster < least_of_enumeration)
+            failed = 1;
+    }
+    printf("\n");
+    fflush(stdout);
+}
+
+/* Eight jobs with pages from 26,000 to 60,000 and unlike stiffnesses. */
+static void fill(uint32_t jobs[40], uint32_t lo, uint32_t hi)
+{
+    static const uint32_t pages[8] = {26000, 31000, 36000, 41000, 46000, 51000, 56000, 60000}, stiffness[8] = {5, 14, 11, 6, 1, 22, 32, 9};
+    for (int i = 0; i < 8; i++) {
+        uint32_t job[5] = {lo, hi, pages[i] / 2, pages[i] - pages[i] / 2, stiffness[i]};
+        memcpy(jobs + 5 * i, job, sizeof job);
+    }
+}
+
+static void fix_last(uint32_t jobs[40], uint32_t t) { jobs[35] = jobs[36] = t; }
+
+static uint32_t greatest_need(const uint32_t jobs[40])
+{
+    uint64_t answer[10];
+    charopleth_choose(8, jobs, 0xffffffff, answer);
+    return (uint32_t)answer[0];
+}
+
+int main(void)
+{
+    static const uint32_t parts[4] = {2, 10, 100, 1000};
+    uint32_t jobs[40];
+    fill(jobs, 1, 3600);
+    for (int i = 0; i < 4; i++)
+        measure("8 jobs [1,3600]", jobs, greatest_need(jobs) / parts[i], 1);
+    for (int i = 0; i < 6; i++)
+        jobs[5 * i + 2] = jobs[5 * i + 3] = 0;
+    for (int i = 0; i < 4; i++)
+        measure("six of them without pages", jobs, greatest_need(jobs) / parts[i], 0);
+    fill(jobs, 1, 3600);
+    fix_last(jobs, 3600);
+    for (int i = 0; i < 4; i++)
+        measure("archive: last [3600,3600]", jobs, greatest_need(jobs) / parts[i], 0);
+    fill(jobs, 2, 1000);
+    fix_last(jobs, 3593);
+    measure("last [3593,3593], met by none", jobs, 1000000, 0);
+    printf(failed ? "bench: a bound is broken\n" : "bench: within %.1f x the walk in C and 1/%.0f of enumeration\n", most_of_walk, least_of_enumeration);
+    return failed;
+}

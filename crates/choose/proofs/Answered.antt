@@ -1,0 +1,76 @@
+-- What both walks leave is what is right for the jobs and the budget.
+-- Assumes nothing.
+use mathlib.Core.Path.{_≡_, sym, _∙_, ap, subst}
+use mathlib.Core.List.{List, [], _∷_}
+use Prim.Native.Nat.{ℕ, zero, suc, _^_, _≤_, _<_, zero-le}
+use native.Mathlib.Omega.{arith}
+use native.Mathlib.Nat.{le-refl, le-trans}
+use lib.ListN.{getD}
+use Rattle.model.specs.declared.Seconds.{Seconds}
+use Rattle.model.specs.declared.PagesPerHour.{PagesPerHour}
+use Rattle.model.specs.declared.Job.{Job}
+use Rattle.model.specs.declared.Verdict.the-variants.{NoPeriods, Budget}
+use Rattle.model.specs.Model.{seconds, pagesPerHour, ValidJobs, PermittedAfter}
+use Rattle.choose.specs.Choice.{refused, Outcome}
+use Rattle.choose.specs.Walk.{start, walk, walkDown}
+use Rattle.choose.specs.Found.{nothing, found, pick, none, least, lessNeed, settle}
+use Rattle.choose.specs.Arrays.{Held}
+use Rattle.choose.specs.Steps.{Ready, noPlan, noNeed, periodsIn, foundIn, leastIn, Lessens, Walks, Small, planIn}
+use Rattle.choose.proofs.Falling.{down-lists}
+use Rattle.choose.proofs.Fold.{BestFound, BestOrNone, walk-best}
+use Rattle.choose.proofs.LeastNeed.{LeastOrNone, walk-least}
+use Rattle.choose.proofs.Settled.{settled}
+use Rattle.choose.proofs.Bounds.{start-bounded}
+use Rattle.choose.proofs.Held.{held-valid}
+use Rattle.choose.proofs.Lessening.{some-least, no-least}
+use Rattle.choose.proofs.Stored.{plan-found, no-plan-found}
+
+-- each period that is permitted is within the hour
+permitted-to : (before : Seconds) (js : List Job) (n : ℕ) (xs : List ℕ) → ValidJobs js → PermittedAfter before js (periodsIn n xs) → (k : ℕ) → k < n → getD xs k 0 ≤ 3600
+permitted-to before js zero xs v h k less = absurd (omega arith)
+permitted-to before js (suc n) [] v h zero less = zero-le
+permitted-to before js (suc n) [] v h (suc k) less = zero-le
+permitted-to before [] (suc n) (x ∷ xs) v h k less = absurd h
+permitted-to before (j ∷ js) (suc n) (x ∷ xs) v h zero less = le-trans (h .0 .below) (v .0 .hi-to)
+permitted-to before (j ∷ js) (suc n) (x ∷ xs) v h (suc k) less = permitted-to (seconds x) js n xs (v .1) (h .1) k (omega arith)
+
+module _ {spans runs rates weights : List ℕ} {n : ℕ} {js : List Job} (held : Held spans runs rates weights 0 n js) where
+  -- where both walks begin
+  pub ready-start : Ready spans runs rates weights 0 n (seconds 1) 0 0
+  ready-start = record { js = js; held = held; from = le-refl 1; to = omega arith; bounded = start-bounded }
+
+  module _ {b : PagesPerHour} {ps ps′ best best′ : List ℕ} (w : Walks spans runs rates weights 0 n b (seconds 1) 0 0 ps ps′ best best′) (begun : getD best 9 0 ≡ noPlan) where
+    best-or-none : BestOrNone js b (foundIn n best′)
+    best-or-none = subst (BestOrNone js b) (sym (w .is js held ∙ ap (walk (pick (b .0)) js start) (no-plan-found n best begun))) (walk-best js b (held-valid js held))
+
+    best-found : (getD best′ 9 0 ≡ noPlan → ⊥) → BestFound js b (getD best′ 8 0) (getD best′ 9 0) (periodsIn n best′)
+    best-found some = subst (BestOrNone js b) (plan-found n best′ some) best-or-none
+
+    -- a plan was found
+    pub plan-small : b .0 < 2 ^ 32 → (getD best′ 9 0 ≡ noPlan → ⊥) → Small n best′
+    plan-small fits some =
+        let f = best-found some in
+        let q = f .its-need in
+        let to = f .best .fits in
+        record { count = held .most; size = w .sizes .best-size; periods = λ k less. (let p = permitted-to (seconds 1) js n best′ (held-valid js held) (f .best .permitted) k less in omega arith); its-need = omega arith }
+
+    pub plan-right : (getD best′ 9 0 ≡ noPlan → ⊥) → Outcome js b (planIn n best′)
+    unfolding settle
+    plan-right some = settled js b (found (getD best′ 8 0) (getD best′ 9 0) (periodsIn n best′)) (walkDown lessNeed js start none) (best-found some) (walk-least down-lists js (held-valid js held))
+
+    -- none was found: the least need, if there is one
+    module _ (no-plan : getD best′ 9 0 ≡ noPlan) (r : PagesPerHour) (l : Lessens spans runs rates 0 n (seconds 1) 0 (pagesPerHour noNeed) r) where
+      none-found : BestOrNone js b nothing
+      none-found = subst (BestOrNone js b) (no-plan-found n best′ no-plan) best-or-none
+
+      least-or-none : LeastOrNone js (leastIn r)
+      unfolding leastIn
+      least-or-none = subst (LeastOrNone js) (sym (l weights js 0 [] held)) (walk-least down-lists js (held-valid js held))
+
+      pub none-right : r .0 ≡ noNeed → Outcome js b (refused NoPeriods)
+      unfolding settle
+      none-right e = settled js b nothing none none-found (subst (LeastOrNone js) (no-least r e) least-or-none)
+
+      pub least-right : (r .0 ≡ noNeed → ⊥) → Outcome js b (refused (Budget r))
+      unfolding settle
+      least-right some = settled js b nothing (least (r .0)) none-found (subst (LeastOrNone js) (some-least r some) least-or-none)

@@ -1,0 +1,86 @@
+-- `choose::choose_sound` meets its contract: the arrays hold the jobs, and what both walks leave is what is right.
+-- Assumes nothing.
+use borrow.Author.Needs.{needs}
+use mathlib.Core.Path.{refl}
+use Rattle.choose.proofs.Filled.{all-held}
+use Rattle.choose.proofs.Answered.{ready-start, plan-small, plan-right, none-right, least-right}
+use native.Mathlib.Omega.{arith}
+use Rattle.choose.proofs.choose_sound.Statement.{statement}
+use Rattle.choose.proofs.choose_sound.Tie as tie
+
+cast-n : tie.Need-cast-n
+cast-n c = search needs
+
+seconds-of-requires : tie.Need-seconds-of-requires
+seconds-of-requires c κs = search needs
+
+pages-of-requires : tie.Need-pages-of-requires
+pages-of-requires c κs = search needs
+
+rates-of-requires : tie.Need-rates-of-requires
+rates-of-requires c κs = search needs
+
+stiffnesses-of-requires : tie.Need-stiffnesses-of-requires
+stiffnesses-of-requires c κs = search needs
+
+array-write-best : tie.Need-array-write-best
+array-write-best c = search needs
+
+find-best-requires : tie.Need-find-best-requires
+find-best-requires c κs =
+    let held = all-held (c .before .before .before .before .before .before .before .before .before .before .before .pre) (c .before .before .before .before .before .before .before .before .before .seconds-of .ensures) (c .before .before .before .before .before .before .before .before .pages-of .ensures) (c .before .before .before .before .before .before .before .rates-of .ensures) (c .before .before .before .before .before .before .stiffnesses-of .ensures) in
+    (ready-start held, record { count = held .most; periods-size = refl; best-size = refl })
+
+array-read-if1 : tie.Need-array-read-if1
+array-read-if1 c = search needs
+
+plan-requires : tie.Need-plan-requires
+plan-requires c κs =
+    let held = all-held (c .before .before .before .before .before .before .before .before .before .before .before .before .before .before .pre) (c .before .before .before .before .before .before .before .before .before .before .before .before .seconds-of .ensures) (c .before .before .before .before .before .before .before .before .before .before .before .pages-of .ensures) (c .before .before .before .before .before .before .before .before .before .before .rates-of .ensures) (c .before .before .before .before .before .before .before .before .before .stiffnesses-of .ensures) in
+    plan-small held (c .before .before .find-best .ensures) refl (omega (arith, c .before .before .before .before .before .before .before .before .before .before .before .before .before .before .good)) (c .before .if1 .taken)
+
+returns : tie.Need-returns
+returns c =
+    let held = all-held (c .before .before .before .before .before .before .before .before .before .before .before .before .before .before .before .pre) (c .before .before .before .before .before .before .before .before .before .before .before .before .before .seconds-of .ensures) (c .before .before .before .before .before .before .before .before .before .before .before .before .pages-of .ensures) (c .before .before .before .before .before .before .before .before .before .before .before .rates-of .ensures) (c .before .before .before .before .before .before .before .before .before .before .stiffnesses-of .ensures) in
+    rw (c .plan .ensures) (plan-right held (c .before .before .before .find-best .ensures) refl (c .before .before .if1 .taken))
+
+least-need-requires : tie.Need-least-need-requires
+least-need-requires c κs =
+    let held = all-held (c .before .before .before .before .before .before .before .before .before .before .before .before .before .before .before .before .pre) (c .before .before .before .before .before .before .before .before .before .before .before .before .before .before .seconds-of .ensures) (c .before .before .before .before .before .before .before .before .before .before .before .before .before .pages-of .ensures) (c .before .before .before .before .before .before .before .before .before .before .before .before .rates-of .ensures) (c .before .before .before .before .before .before .before .before .before .before .before .stiffnesses-of .ensures) in
+    record { weights = _; ready = ready-start held }
+
+refusal-requires : tie.Need-refusal-requires
+refusal-requires c κs = search needs
+
+returns-2 : tie.Need-returns-2
+returns-2 c =
+    let held = all-held (c .before .before .before .before .before .before .before .before .before .before .before .before .before .before .before .before .before .before .before .pre) (c .before .before .before .before .before .before .before .before .before .before .before .before .before .before .before .before .before .seconds-of .ensures) (c .before .before .before .before .before .before .before .before .before .before .before .before .before .before .before .before .pages-of .ensures) (c .before .before .before .before .before .before .before .before .before .before .before .before .before .before .before .rates-of .ensures) (c .before .before .before .before .before .before .before .before .before .before .before .before .before .before .stiffnesses-of .ensures) in
+    rw (c .refusal .ensures) (none-right held (c .before .before .before .before .before .before .before .find-best .ensures) refl (c .before .before .before .before .before .before .if1 .left) _ (c .before .before .least-need .ensures) (c .before .if2 .taken))
+
+refusal-requires-2 : tie.Need-refusal-requires-2
+refusal-requires-2 c κs = search needs
+
+returns-3 : tie.Need-returns-3
+returns-3 c =
+    let held = all-held (c .before .before .before .before .before .before .before .before .before .before .before .before .before .before .before .before .before .before .before .pre) (c .before .before .before .before .before .before .before .before .before .before .before .before .before .before .before .before .before .seconds-of .ensures) (c .before .before .before .before .before .before .before .before .before .before .before .before .before .before .before .before .pages-of .ensures) (c .before .before .before .before .before .before .before .before .before .before .before .before .before .before .before .rates-of .ensures) (c .before .before .before .before .before .before .before .before .before .before .before .before .before .before .stiffnesses-of .ensures) in
+    rw (c .refusal2 .ensures) (least-right held (c .before .before .before .before .before .before .before .find-best .ensures) refl (c .before .before .before .before .before .before .if1 .left) _ (c .before .before .least-need .ensures) (c .before .if2 .left))
+
+pub choose-sound-spec : {M : Type 1} → statement M
+choose-sound-spec =
+    tie.close
+    (tie.spec
+    cast-n
+    seconds-of-requires
+    pages-of-requires
+    rates-of-requires
+    stiffnesses-of-requires
+    array-write-best
+    find-best-requires
+    array-read-if1
+    plan-requires
+    returns
+    least-need-requires
+    refusal-requires
+    returns-2
+    refusal-requires-2
+    returns-3)

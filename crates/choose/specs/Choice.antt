@@ -1,0 +1,42 @@
+-- What `choose` may answer, in the words of document 01; cited by the public contract.
+-- Assumes nothing.
+use mathlib.Core.Path.{_≡_}
+use mathlib.Core.List.{List, _++_}
+use Prim.Native.Nat.{_-_, _≤_}
+use lib.ListN.{length, replicate}
+use Rattle.model.specs.declared.Seconds.{Seconds}
+use Rattle.model.specs.declared.PagesPerHour.{PagesPerHour}
+use Rattle.model.specs.declared.Job.{Job}
+use Rattle.model.specs.declared.Profile.{Profile}
+use Rattle.model.specs.declared.Verdict.{Verdict}
+use Rattle.model.specs.declared.Verdict.the-variants.{Sound, NoPeriods, Budget}
+use Rattle.model.specs.Model.{seconds, pagesPerHour, jobsOf, Permitted, need, FitsBudget, loss, Best, verdictOf}
+use Rattle.choose.specs.declared.Choice.{Choice}
+
+-- A list of periods, followed by zeros up to eight entries (Quantities, on choosing).
+abbrev pub padded : List Seconds → List Seconds
+padded ts = ts ++ replicate (8 - length ts) (seconds 0)
+
+-- These periods, with their need and their loss (Quantities, on choosing).
+abbrev pub answered : List Job → List Seconds → Choice
+answered js ts = record { verdict = Sound; periods = padded ts; need = need js ts; loss = loss js ts }
+
+-- A refusal, and nothing else beside it (Refusal numbers).
+abbrev pub refused : Verdict → Choice
+refused v = record { verdict = v; periods = replicate 8 (seconds 0); need = pagesPerHour 0; loss = 0 }
+
+-- The least budget that would do: some permitted periods fit it, and every budget that some fit is no smaller (Refusal numbers, 10).
+pub record LeastBudget (js : List Job) (m : PagesPerHour) : Type 0 where
+  pub enough : (ts : List Seconds) × Permitted js ts × FitsBudget js ts m
+  pub fewest : (b : PagesPerHour) (ts : List Seconds) → Permitted js ts → FitsBudget js ts b → m .0 ≤ b .0
+
+-- What is answered for sound jobs and a budget: the best periods; 9 where none are permitted; 10 where some are and none fit (Refusal numbers, on choosing).
+pub data Outcome (js : List Job) (b : PagesPerHour) : Choice → Type 0 where
+  given : {ts : List Seconds} → Best js b ts → Outcome js b (answered js ts)
+  none-permitted : ((ts : List Seconds) → Permitted js ts → ⊥) → Outcome js b (refused NoPeriods)
+  none-fit : {m : PagesPerHour} → LeastBudget js m → ((ts : List Seconds) → Permitted js ts → FitsBudget js ts b → ⊥) → Outcome js b (refused (Budget m))
+
+-- What is answered for a profile and a budget: the profile's own refusal, and only then the rest (Refusal numbers, order).
+pub record Chosen (p : Profile) (b : PagesPerHour) (r : Choice) : Type 0 where
+  pub own : (verdictOf p ≡ Sound → ⊥) → r ≡ refused (verdictOf p)
+  pub sound : verdictOf p ≡ Sound → Outcome (jobsOf p) b r

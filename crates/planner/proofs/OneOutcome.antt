@@ -1,0 +1,17 @@
+-- Any two outcomes that a public contract of this crate allows are equal, since the operations behind it have one outcome.
+-- Assumes nothing.
+use mathlib.Core.Path.{_≡_, _∙_, sym, ap}
+use mathlib.Core.List.{List}
+use Prim.Native.Nat.{ℕ}
+use lib.Seq.{sets}
+use Rattle.model.specs.Model.{pagesPerHour, ifSound}
+use Rattle.choose.specs.declared.Choice.{Choice}
+use Rattle.choose.proofs.OneOutcome.{choose-one-outcome}
+use Rattle.planner.specs.ForC.{resultOf, profileIn, answerOf, ChoosesForC}
+
+pub charopleth-choose-one-outcome : (n : ℕ) (jobs : List ℕ) (budget : ℕ) (old : List ℕ) {r s : ℕ} {new other-new : List ℕ} → ChoosesForC n jobs budget old r new → ChoosesForC n jobs budget old s other-new → (r ≡ s) × (new ≡ other-new)
+charopleth-choose-one-outcome n jobs budget old one other =
+    let same = choose-one-outcome (profileIn n jobs) (pagesPerHour budget) (one .chosen) (other .chosen) in (
+      one .result ∙ ap (λ (c : Choice). resultOf (c .verdict)) same ∙ sym (other .result),
+      one .answer ∙ ap (λ (c : Choice). ifSound (c .verdict) (sets old 0 (answerOf (c .need) (c .loss) (c .periods))) old) same ∙ sym (other .answer),
+    )

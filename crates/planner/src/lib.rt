@@ -1,0 +1,99 @@
+// The planner as C sees it: include/charopleth.h declares these functions for C.
+//
+// specs/ForC.antt says how values, answers and verdicts look there. Nothing is assumed, and no public function has a
+// `requires`.
+use model::Job;
+use model::PagesPerHour;
+use model::Profile;
+use model::Seconds;
+use model::Verdict;
+ghost use mathlib.Core.Path.{_≡_};
+ghost use Prim.Native.Nat.{_<_};
+ghost use lib.Seq.{sets};
+ghost use Rattle.planner.specs.ForC.{resultOf, jobIn, profileIn, ChoosesForC, answerOf};
+
+// The best periods for a budget.
+#[no_mangle]
+pub extern "C" fn charopleth_choose(
+    n: u32,
+    jobs: &[u32; 40],
+    budget: u32,
+    answer: &mut [u64; 10],
+) -> u64
+    ensures { λ r. ⌜ ChoosesForC n (now (jobs .entry)) budget (now (answer .entry)) r (now (answer .exit)) ⌝ }
+{
+    let c = choose::choose(profile(n, jobs), PagesPerHour(budget));
+    let v = c.verdict;
+    let Verdict::Sound = v else {
+        return result(v);
+    };
+    let periods = c.periods;
+    put_answer(c.need, c.loss, periods, answer);
+    0
+}
+
+// Need, loss and eight periods into ten numbers.
+fn put_answer(need: PagesPerHour, loss: u64, periods: [Seconds; 8], answer: &mut [u64; 10])
+    ensures { λ _. ⌜ now (answer .exit) ≡ sets (now (answer .entry)) 0 (answerOf need loss periods) ⌝ }
+{
+    answer[0] = need.0 as u64;
+    answer[1] = loss;
+    answer[2] = wide(periods[0]);
+    answer[3] = wide(periods[1]);
+    answer[4] = wide(periods[2]);
+    answer[5] = wide(periods[3]);
+    answer[6] = wide(periods[4]);
+    answer[7] = wide(periods[5]);
+    answer[8] = wide(periods[6]);
+    answer[9] = wide(periods[7]);
+}
+
+fn wide(t: Seconds) -> u64
+    ensures { λ r. ⌜ r ≡ t .0 ⌝ }
+{
+    t.0 as u64
+}
+
+// A verdict as one number: the refusal's number above its detail.
+fn result(v: Verdict) -> u64
+    ensures { λ r. ⌜ r ≡ resultOf v ⌝ }
+{
+    let detail = model::detail(v);
+    if 0xffff_ffff_ffff < detail {
+        return (model::number(v) as u64) * 0x1_0000_0000_0000 + 0xffff_ffff_ffff;
+    }
+    (model::number(v) as u64) * 0x1_0000_0000_0000 + detail
+}
+
+// A profile from n and 40 numbers.
+fn profile(n: u32, jobs: &[u32; 40]) -> Profile
+    ensures { λ r. ⌜ r ≡ profileIn n (now (jobs .entry)) ⌝ }
+{
+    Profile {
+        n,
+        jobs: [
+            job(jobs, 0),
+            job(jobs, 5),
+            job(jobs, 10),
+            job(jobs, 15),
+            job(jobs, 20),
+            job(jobs, 25),
+            job(jobs, 30),
+            job(jobs, 35),
+        ],
+    }
+}
+
+// The job whose five numbers stand from `at` on.
+fn job(jobs: &[u32; 40], at: usize) -> Job
+    requires { ⌜ at < 36 ⌝ }
+    ensures { λ r. ⌜ r ≡ jobIn (now (jobs .entry)) at ⌝ }
+{
+    Job {
+        lo: Seconds(jobs[at]),
+        hi: Seconds(jobs[at + 1]),
+        data: jobs[at + 2],
+        metadata: jobs[at + 3],
+        stiffness: jobs[at + 4],
+    }
+}

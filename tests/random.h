@@ -1,0 +1,96 @@
+/* Random numbers with a seed, and random profiles: valid ones of several kinds, and broken ones. */
+#ifndef RANDOM_H
+#define RANDOM_H
+
+#include <stdint.h>
+#include <string.h>
+
+static uint64_t random_state;
+
+static uint64_t draw(void)
+{
+    random_state ^= random_state << 13;
+    random_state ^= random_state >> 7;
+    random_state ^= random_state << 17;
+    return random_state;
+}
+
+static uint32_t below(uint32_t n) { return (uint32_t)(draw() >> 32) % n; }
+
+static uint32_t smaller(uint32_t a, uint32_t b) { return a < b ? a : b; }
+
+static uint32_t draw_pages(void)
+{
+    switch (below(4)) {
+    case 0: return 0;
+    case 1: return below(6);
+    case 2: return 32767 - below(3);
+    default: return below(32768);
+    }
+}
+
+static void draw_job(uint32_t job[5])
+{
+    uint32_t lo, hi;
+    switch (below(5)) {
+    case 0: lo = 1 + below(60); hi = lo + below(40); break;
+    case 1: lo = 1 + below(1u << (1 + below(11))); hi = lo * (1 + below(4)) + below(10); break;
+    case 2: lo = 1 + below(3600); hi = lo; break;
+    case 3: lo = 1; hi = 1 + below(24); break;
+    default: lo = 1 + below(3600); hi = lo + below(3601 - lo); break;
+    }
+    job[0] = smaller(lo, 3600);
+    job[1] = smaller(hi, 3600);
+    job[2] = draw_pages();
+    job[3] = draw_pages();
+    job[4] = 1 + below(32);
+}
+
+/* Intervals around a list of multiples, so that some periods are permitted. */
+static void plant(uint32_t jobs[40], uint32_t n)
+{
+    uint32_t t = 1 + below(1u << (1 + below(7)));
+    for (uint32_t i = 0; i < n; i++) {
+        uint32_t times = 1 + below(4);
+        if (i > 0 && t * times <= 3600)
+            t *= times;
+        uint32_t wide = 1 + t / (1 + below(8));
+        uint32_t down = below(wide);
+        jobs[5 * i] = down < t ? t - down : 1;
+        jobs[5 * i + 1] = smaller(t + below(wide), 3600);
+    }
+}
+
+/* A valid profile. Jobs beyond n hold anything. */
+static uint32_t draw_profile(uint32_t jobs[40])
+{
+    uint32_t n = 1 + below(8);
+    for (uint32_t i = 0; i < 8; i++)
+        draw_job(jobs + 5 * i);
+    if (below(4))
+        plant(jobs, n);
+    for (uint32_t i = 5 * n; i < 40; i++)
+        jobs[i] = below(2) ? (uint32_t)draw() : below(4000);
+    return n;
+}
+
+/* A value that sits at the edge of some bound, or anywhere. */
+static uint32_t draw_edge(void)
+{
+    static const uint32_t edges[] = {0, 1, 8, 9, 32, 33, 3600, 3601, 32767, 32768, 65535, 65536, 0x7fffffff, 0x80000000, 0xffffffff};
+    return below(4) ? edges[below(sizeof edges / sizeof *edges)] : (uint32_t)draw();
+}
+
+/* Breaks some values of a profile. */
+static uint32_t break_profile(uint32_t n, uint32_t jobs[40])
+{
+    for (uint32_t k = 1 + below(3); k > 0; k--) {
+        if (below(6) == 0)
+            n = draw_edge();
+        else
+            jobs[below(40)] = draw_edge();
+    }
+    return n;
+}
+
+#endif

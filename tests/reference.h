@@ -1,0 +1,14 @@
+/* A second planner, written from the rules alone by plain enumeration, to compare the proved one with. */
+#ifndef REFERENCE_H
+#define REFERENCE_H
+
+#include <stdint.h>
+
+/* As in charopleth.h; but where more than `most` parts of lists would be visited it gives up and answers REFERENCE_LONG. */
+#define REFERENCE_LONG UINT64_MAX
+uint64_t reference_choose(uint32_t n, const uint32_t jobs[40], uint32_t budget, uint64_t answer[10], uint64_t most);
+
+/* The verdict on the values alone, 0 or the refusal. */
+uint64_t reference_judge(uint32_t n, const uint32_t jobs[40]);
+
+#endif
