@@ -4,4 +4,5 @@ pub mod OneOutcome
 pub mod Packing
 pub mod Records
 pub mod RoundTrip
+pub mod Rows
 pub mod Words

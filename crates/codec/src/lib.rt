@@ -1,7 +1,7 @@
-// A profile's bytes, read and written.
+// A profile's bytes, read and written, and rows of sixteen bytes.
 //
-// specs/Packing.antt says how fields are packed, and specs/Layout.antt which fields a profile has and what reading and
-// writing answer. Nothing is assumed, and no public function has a `requires`.
+// specs/Packing.antt says how fields are packed, specs/Layout.antt which fields a profile has and what reading and
+// writing answer, and specs/Rows.antt what a row is. Nothing is assumed, and no public function has a `requires`.
 use model::Counted;
 use model::Job;
 use model::Profile;
@@ -14,6 +14,7 @@ ghost use lib.ListN.{length, take, drop};
 ghost use Rattle.model.specs.Model.{noJob, firstRefused, Valid, ValidJob};
 ghost use Rattle.codec.specs.Packing.{pack, unpack};
 ghost use Rattle.codec.specs.Layout.{jobWidths, byteWidths, profileLength, fieldsOf, profileBytes, countOf, recordsIn, judgeRecord, judgeHeader, verdictOfBytes, noProfile, Reads, Writes};
+ghost use Rattle.codec.specs.Rows.{rowBytes, withRow};
 ghost use Rattle.codec.specs.Fields.{recordOf, fieldsAt, judgeCut, profileOf};
 
 // What reading answers: the values, all zeros beside a refusal.
@@ -75,6 +76,16 @@ pub fn write_profile(p: Profile, out: &mut [u8]) -> Counted
     Counted {
         verdict: Verdict::Sound,
         count: size as u64,
+    }
+}
+
+// Makes the k-th row of sixteen bytes of `out`, counted from 0, hold two words; where `out` has no such row, nothing changes.
+pub fn put_row(out: &mut [u8], k: usize, high: u64, low: u64)
+    ensures { λ _. ⌜ now (out .exit) ≡ withRow (now (out .entry)) k (rowBytes high low) ⌝ }
+{
+    if k < out.len() / 16 {
+        put_word(out, 16 * k, high);
+        put_word(out, 16 * k + 8, low);
     }
 }
 

@@ -4,7 +4,7 @@ use Prim.Native.Nat.{ℕ, suc, _+_, _*_, _-_, _/_, _%_, _≤_, _<_}
 use mathlib.Core.Path.{_≡_, _∙_, ap}
 use mathlib.Core.Logic.{_↔_}
 use native.Mathlib.Omega.{arith}
-use native.Mathlib.Nat.{le-refl, le-trans, div-lt-iff-lt-mul, div-add-mod', add-mul}
+use native.Mathlib.Nat.{le-refl, le-trans, le-div-iff-mul-le, div-lt-iff-lt-mul, div-add-mod', add-mul}
 use Rattle.model.specs.Model.{roundUp}
 
 pub round-up-le : (a q : ℕ) {b : ℕ} → 1 ≤ b → (roundUp a b ≤ q) ↔ (a ≤ q * b)
@@ -35,3 +35,6 @@ multiple-is t p e = let d = div-add-mod' t p in omega arith
 
 pub split-product : {q y : ℕ} (p : ℕ) → q ≤ y → y * p ≡ q * p + (y - q) * p
 split-product {q} {y} p h = let d : y ≡ q + (y - q) = omega arith in ap (λ (z : ℕ). z * p) d ∙ add-mul q (y - q) p
+
+pub round-up-some : {a b : ℕ} → 1 ≤ a → 1 ≤ b → 1 ≤ roundUp a b
+round-up-some h k = le-div-iff-mul-le k .1 (omega arith)

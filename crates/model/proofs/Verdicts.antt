@@ -72,7 +72,7 @@ module _ {A : Type 0} (judgeOne : A → ℕ → Verdict) (d : A) (xs : List A) (
   unfolding firstRefused
   all-judged h = ap (firstRefused judgeOne k) (entries-end d xs k n h)
 
-sound-of-zero : (v : Verdict) → numberOf v ≡ 0 → v ≡ Sound
+pub sound-of-zero : (v : Verdict) → numberOf v ≡ 0 → v ≡ Sound
 sound-of-zero Sound e = refl
 sound-of-zero NoBytes e = absurd (eqb-false _ 0 refl e)
 sound-of-zero Edition e = absurd (eqb-false _ 0 refl e)

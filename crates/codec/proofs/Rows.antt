@@ -1,0 +1,77 @@
+-- Rows of sixteen bytes: written as two words, and cut out of packed fields the same way.
+-- Assumes nothing.
+use mathlib.Core.Path.{_≡_, sym, _∙_, ap, ap₂}
+use mathlib.Core.List.{List, [], _∷_, _++_, append-assoc}
+use Prim.Native.Nat.{ℕ, _+_, _*_, _/_, _%_, _^_, _≤_, _<_}
+use native.Mathlib.Nat.{add-comm, mod-eq-of-lt, mod-lt}
+use native.Mathlib.Omega.{arith}
+use lib.Arith.{digits-lt}
+use lib.Pow.{pow-pos, high, low, shr-shr, field, mod-mod-pow}
+use lib.ListN.{length, take, drop, length-append}
+use lib.Seq.{length-take-le, take-at, drop-drop, drop-append-add}
+use borrow.Author.Tests.{lt-ltb, le-ltb}
+use Rattle.codec.specs.Packing.{bits, pack, unpack, recut}
+use Rattle.codec.specs.Layout.{byteWidths}
+use Rattle.codec.specs.Rows.{rowBytes, withRow}
+use Rattle.codec.proofs.Packing.{length-unpack}
+
+bits-append : (vs us : List ℕ) → bits (vs ++ us) ≡ bits vs + bits us
+unfolding bits
+bits-append [] us = omega arith
+bits-append (v ∷ vs) us = omega (arith, bits-append vs us)
+
+-- cutting by widths one after the other
+unpack-append : (vs us : List ℕ) (x : ℕ) → x < 2 ^ bits (vs ++ us) → unpack (vs ++ us) x ≡ unpack vs (x / 2 ^ bits us) ++ unpack us (x % 2 ^ bits us)
+unfolding unpack bits
+unpack-append [] us x h = ap (unpack us) (sym (mod-eq-of-lt h))
+unpack-append (v ∷ vs) us x h =
+    let y = x % 2 ^ bits (vs ++ us) in
+    let ih = unpack-append vs us y (mod-lt x (pow-pos (bits (vs ++ us)))) in
+    let sum = bits-append vs us in
+    let top : x / 2 ^ bits (vs ++ us) ≡ x / 2 ^ bits us / 2 ^ bits vs = ap (λ (n : ℕ). x / 2 ^ n) (sum ∙ add-comm (bits vs) (bits us)) ∙ sym (shr-shr x (bits us) (bits vs)) in
+    let mid : y / 2 ^ bits us ≡ x / 2 ^ bits us % 2 ^ bits vs = ap (λ (n : ℕ). x % 2 ^ n / 2 ^ bits us) sum ∙ field x (bits vs) (bits us) in
+    let end : y % 2 ^ bits us ≡ x % 2 ^ bits us = ap (λ (n : ℕ). x % 2 ^ n % 2 ^ bits us) sum ∙ mod-mod-pow x (bits vs) (bits us) in
+    ap₂ _∷_ top (ih ∙ ap₂ (λ (a b : ℕ). unpack vs a ++ unpack us b) mid end)
+
+-- fields that pack to two words have those words' bytes
+pub row-of-words : (ws fs : List ℕ) (h l : ℕ) → pack ws fs ≡ h * 2 ^ 64 + l → h < 2 ^ 64 → l < 2 ^ 64 → recut ws (byteWidths 16) fs ≡ rowBytes h l
+unfolding recut rowBytes bits
+row-of-words ws fs h l e hh hl =
+    let small : h * 2 ^ 64 + l < 2 ^ 64 * 2 ^ 64 = digits-lt hh hl in
+    ap (unpack (byteWidths 16)) e
+    ∙ unpack-append (byteWidths 8) (byteWidths 8) (h * 2 ^ 64 + l) small
+    ∙ ap₂ (λ (a b : ℕ). unpack (byteWidths 8) a ++ unpack (byteWidths 8) b) (high h 64 hl) (low h 64 hl)
+
+pub length-row : (h l : ℕ) → length (rowBytes h l) ≡ 16
+unfolding rowBytes
+length-row h l = length-append (unpack (byteWidths 8) h) (unpack (byteWidths 8) l) ∙ ap₂ _+_ (length-unpack (byteWidths 8) h) (length-unpack (byteWidths 8) l)
+
+-- one word and then the next
+pub row-put : (old mid new : List ℕ) (k h l : ℕ) → k < length old / 16 → length mid ≡ length old
+    → mid ≡ take (16 * k) old ++ (unpack (byteWidths 8) h ++ drop (16 * k + 8) old)
+    → new ≡ take (16 * k + 8) mid ++ (unpack (byteWidths 8) l ++ drop (16 * k + 8 + 8) mid)
+    → new ≡ withRow old k (rowBytes h l)
+unfolding withRow rowBytes
+row-put old mid new k h l room same first second =
+    let H = unpack (byteWidths 8) h in
+    let L = unpack (byteWidths 8) l in
+    let P = take (16 * k) old in
+    let D = drop (16 * k + 8) old in
+    let front : length P ≡ 16 * k = length-take-le (16 * k) old (omega arith) in
+    let size : length (P ++ H) ≡ 16 * k + 8 = length-append P H ∙ ap₂ _+_ front (length-unpack (byteWidths 8) h) in
+    let joined : mid ≡ P ++ H ++ D = first ∙ sym (append-assoc P H D) in
+    let before-it : take (16 * k + 8) mid ≡ P ++ H = ap (take (16 * k + 8)) joined ∙ take-at (P ++ H) D (16 * k + 8) size in
+    let place : 16 * k + 8 + 8 ≡ length (P ++ H) + 8 = omega arith in
+    let next : 16 * k + 8 + 8 ≡ 16 * k + 16 = omega arith in
+    let after-it : drop (16 * k + 8 + 8) mid ≡ drop (16 * k + 16) old = ap (drop (16 * k + 8 + 8)) joined ∙ ap (λ (n : ℕ). drop n (P ++ H ++ D)) place ∙ drop-append-add (P ++ H) D 8 ∙ drop-drop 8 (16 * k + 8) old ∙ ap (λ (n : ℕ). drop n old) next in
+    rw (lt-ltb k (length old / 16) room) (second ∙ ap₂ (λ (a b : List ℕ). a ++ (L ++ b)) before-it after-it ∙ append-assoc P H (L ++ drop (16 * k + 16) old) ∙ ap (λ (m : List ℕ). P ++ m) (sym (append-assoc H L (drop (16 * k + 16) old))))
+
+-- no such row
+pub row-out : (old : List ℕ) (k h l : ℕ) → length old / 16 ≤ k → old ≡ withRow old k (rowBytes h l)
+unfolding withRow
+row-out old k h l room = rw (le-ltb k (length old / 16) room)
+
+-- the row within the buffer
+pub row-in : (old row : List ℕ) (k : ℕ) → k < length old / 16 → withRow old k row ≡ take (16 * k) old ++ (row ++ drop (16 * k + 16) old)
+unfolding withRow
+row-in old row k room = rw (lt-ltb k (length old / 16) room)

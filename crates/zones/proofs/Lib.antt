@@ -1,0 +1,14 @@
+pub mod Bound
+pub mod Climbing
+pub mod Copied
+pub mod Counting
+pub mod Flat
+pub mod Listing
+pub mod Numbers
+pub mod OneOutcome
+pub mod Outcome
+pub mod Permitted
+pub mod Ranges
+pub mod Rising
+pub mod Walk
+pub mod ZoneRows

@@ -1,0 +1,89 @@
+-- Harmonic zones, their rows, and what listing them answers (document 01, Zones and Packing).
+-- Cited by public contracts. Assumes nothing.
+use mathlib.Core.Path.{_≡_}
+use mathlib.Core.Logic.{_↔_}
+use mathlib.Core.List.{List, [], _∷_, _++_, List·Memᴰ}
+use Prim.Native.Nat.{ℕ, _*_, _/_, _%_, _≤_}
+use lib.ListN.{length, getD, drop}
+use lib.Dec.{eqb, ltb}
+use Rattle.model.specs.declared.Seconds.{Seconds}
+use Rattle.model.specs.declared.Job.{Job}
+use Rattle.model.specs.declared.Profile.{Profile}
+use Rattle.model.specs.declared.Counted.{Counted}
+use Rattle.model.specs.declared.Verdict.{Verdict}
+use Rattle.model.specs.declared.Verdict.the-variants.{Sound, NoPeriods, Room}
+use Rattle.model.specs.Model.{entries, jobsOf, refuseIf, orElse, ifSound, verdictOf}
+use Rattle.codec.specs.Layout.{byteWidths}
+use Rattle.codec.specs.Packing.{recut}
+
+-- The range of first periods and the multipliers, one for each job; the first is 1 (Zones).
+pub record Zone : Type 0 where
+  pub least : Seconds
+  pub greatest : Seconds
+  pub multipliers : List ℕ
+
+-- Multipliers from 1 up, each a whole multiple of the one before it (Zones).
+abbrev pub MultiplesAfter : ℕ → List ℕ → Type 0
+MultiplesAfter before [] = Unit {0}
+MultiplesAfter before (a ∷ more) = (1 ≤ a) × (a % before ≡ 0) × MultiplesAfter a more
+
+-- Every multiplier times the first period t is in its job's interval (Zones).
+abbrev pub InIntervals : List Job → List ℕ → ℕ → Type 0
+InIntervals [] [] t = Unit {0}
+InIntervals [] (a ∷ more) t = ⊥
+InIntervals (j ∷ js) [] t = ⊥
+InIntervals (j ∷ js) (a ∷ more) t = (j .lo .0 ≤ a * t) × (a * t ≤ j .hi .0) × InIntervals js more t
+
+-- A first period in a zone's range.
+abbrev pub InRange : Zone → ℕ → Type 0
+InRange z t = (z .least .0 ≤ t) × (t ≤ z .greatest .0)
+
+-- A zone of these jobs: its range holds the whole numbers, all and only, that put every job in its interval, and at least one (Zones).
+pub record IsZone (js : List Job) (z : Zone) : Type 0 where
+  pub each : length (z .multipliers) ≡ length js
+  pub first : getD (z .multipliers) 0 0 ≡ 1
+  pub multiples : MultiplesAfter 1 (z .multipliers)
+  pub range : (t : ℕ) → InRange z t ↔ InIntervals js (z .multipliers) t
+  pub some : z .least .0 ≤ z .greatest .0
+
+-- By a2, then a3, and so on: smaller at the first multiplier in which they differ, and they do differ (Zones).
+abbrev pub Before : List ℕ → List ℕ → Type 0
+Before [] others = ⊥
+Before (a ∷ more) [] = ⊥
+Before (a ∷ more) (b ∷ others) = (a ≤ b) × (a ≡ b → Before more others)
+
+-- Each zone stands before every later one.
+abbrev pub Rising : List Zone → Type 0
+Rising [] = Unit {0}
+Rising (z ∷ zs) = ((y : Zone) → List·Memᴰ y zs → Before (z .multipliers) (y .multipliers)) × Rising zs
+
+-- All zones of these jobs and nothing else, in their order, so each once (Zones).
+pub record ZonesOf (js : List Job) (zs : List Zone) : Type 0 where
+  pub only : (z : Zone) → List·Memᴰ z zs → IsZone js z
+  pub all : (z : Zone) → IsZone js z → List·Memᴰ z zs
+  pub rising : Rising zs
+
+-- A zone row's fields: least, greatest, a2 to a8, spare (Packing).
+abbrev pub zoneWidths : List ℕ
+zoneWidths = 12 ∷ 12 ∷ 12 ∷ 12 ∷ 12 ∷ 12 ∷ 12 ∷ 12 ∷ 12 ∷ 20 ∷ []
+
+-- Multipliers beyond n are 0, and so are the last 20 bits (Packing).
+abbrev pub zoneFields : Zone → List ℕ
+zoneFields z = z .least .0 ∷ z .greatest .0 ∷ (entries 0 (z .multipliers) 1 7 ++ (0 ∷ []))
+
+-- Zone rows one after the other, sixteen bytes each (Packing).
+unfoldable pub rowsOf : List Zone → List ℕ
+rowsOf [] = []
+rowsOf (z ∷ zs) = recut zoneWidths (byteWidths 16) (zoneFields z) ++ rowsOf zs
+
+-- The verdict on listing `count` zones into `size` lent bytes: the profile's own, then 9, then 11 (Refusal numbers, order).
+unfoldable pub listVerdict : Profile → ℕ → ℕ → Verdict
+listVerdict p count size = orElse (verdictOf p) (refuseIf (eqb count 0) NoPeriods (refuseIf (ltb (size / 16) count) (Room count) Sound))
+
+-- What `list_zones` may answer, and leave of a lent buffer that held `old`; for a refused profile nothing is said of `zones`.
+pub record Listed (p : Profile) (old : List ℕ) (r : Counted) (new : List ℕ) : Type 0 where
+  pub zones : List Zone
+  pub are : verdictOf p ≡ Sound → ZonesOf (jobsOf p) zones
+  pub verdict : r .verdict ≡ listVerdict p (length zones) (length old)
+  pub count : r .count ≡ ifSound (listVerdict p (length zones) (length old)) (length zones) 0
+  pub bytes : new ≡ ifSound (listVerdict p (length zones) (length old)) (rowsOf zones ++ drop (16 * length zones) old) old
