@@ -76,6 +76,40 @@ def scored(jobs, periods):
     return None, need, loss
 
 
+def permitted(jobs, before=1):
+    """All permitted lists, in the order of the lists."""
+    if not jobs:
+        yield ()
+        return
+    for t in range(jobs[0][0], jobs[0][1] + 1):
+        if t % before == 0:
+            yield from ((t, *rest) for rest in permitted(jobs[1:], t))
+
+
+def chosen(jobs, budget):
+    plans = [(loss, need, ts) for ts in permitted(jobs) for _, need, loss in [scored(jobs, ts)]]
+    if not plans:
+        return (9, 0), (0, 0), ()
+    fitting = [plan for plan in plans if plan[1] <= budget]
+    if not fitting:
+        return (10, min(need for _, need, _ in plans)), (0, 0), ()
+    loss, need, ts = min(fitting)
+    return None, (need, loss), ts
+
+
+def zone_rows(jobs):
+    """The rows of the zones: permitted lists grouped by their multipliers."""
+    zones = {}
+    for ts in permitted(jobs):
+        zones.setdefault(tuple(t // ts[0] for t in ts), []).append(ts[0])
+    rows = b""
+    for multipliers, firsts in sorted(zones.items()):
+        assert firsts == list(range(firsts[0], firsts[-1] + 1))
+        fields = (firsts[0], firsts[-1], *multipliers[1:], *(0,) * (8 - len(multipliers)))
+        rows += int("".join(f"{field:012b}" for field in fields) + "0" * 20, 2).to_bytes(16, "big")
+    return rows
+
+
 def told(verdict):
     return "refused {} {}".format(*verdict) if verdict else "sound"
 
@@ -119,6 +153,32 @@ def expected():
     for periods in ((19, 60, 60), (25, 75, 75), (25, 51, 100), (25, 50, 0)):
         yield from score(A, *periods)
     yield from score([(0, 7, 1, 0, 1)], 7)
+
+    def spans(*intervals):
+        return [(lo, hi, 1, 0, 1) for lo, hi in intervals]
+
+    def choice(jobs, budget):
+        verdict, scores, ts = chosen(jobs, budget)
+        return told(verdict), " ".join(map(str, (*scores, *ts, *(0,) * (8 - len(ts)))))
+
+    most = 2 ** 32 - 1
+    yield "choices"
+    for budget in (4319, 4320, 5399, 5400):
+        yield from choice(A, budget)
+    yield from choice(spans((1, 1), (2, 6), (35, 35)), most)
+    yield from choice(spans((1, 1), (2, 4), (35, 35)), most)
+    yield from choice(spans((7, 7)), 514)
+    yield from choice(spans((7, 7)), 515)
+    yield from choice(spans((1801, 3600)), 1)
+    yield from choice(spans((1801, 3600)), most)
+    yield from choice([(3600, 3600, 0, 0, 1)], 0)
+
+    yield "zones"
+    assert len(list(permitted(spans((6, 10), (11, 22), (19, 40))))) == 9
+    for jobs in (A, spans((6, 10), (11, 22), (19, 40)), spans((1, 1), (2, 6), (35, 35)), spans((1, 1), (2, 4), (35, 35))):
+        rows = zone_rows(jobs)
+        yield from (told(None if rows else (9, 0)), str(len(rows) // 16), rows.hex() + "ee" * (81 - len(rows)))
+    yield from (told((11, len(zone_rows(A)) // 16)), "ee" * 15)
 
 
 def main():

@@ -1,7 +1,7 @@
-// Runs the numbers of document 01 that concern profiles and scoring, and a bad input for each refusal, and prints what
-// comes out. The file stdout beside src/ is what must come out.
+// Runs the numbers of document 01, and a bad input for each refusal, and prints what comes out. The file stdout beside src/ is what must come out.
 use libc::STDOUT_FILENO;
 use model::Job;
+use model::PagesPerHour;
 use model::Profile;
 use model::Seconds;
 use model::Verdict;
@@ -14,6 +14,8 @@ fn main() {
     bad_bytes();
     bad_values();
     bad_periods();
+    choices();
+    zones();
 }
 
 // Profile A's 25 bytes, read and written back.
@@ -107,6 +109,41 @@ fn bad_periods() {
     show_score(one(job(0, 7, 1)), three(7, 0, 0));
 }
 
+// P1 to P4, P6 to P8, P10 and the case with no pages.
+fn choices() {
+    say(b"choices\n");
+    let r = codec::read_profile(&profile_a());
+    let a = r.profile;
+    show_choice(a, 4319);
+    show_choice(a, 4320);
+    show_choice(a, 5399);
+    show_choice(a, 5400);
+    show_choice(spans(job(1, 1, 1), job(2, 6, 1), job(35, 35, 1)), 4294967295);
+    show_choice(spans(job(1, 1, 1), job(2, 4, 1), job(35, 35, 1)), 4294967295);
+    show_choice(one(job(7, 7, 1)), 514);
+    show_choice(one(job(7, 7, 1)), 515);
+    show_choice(one(job(1801, 3600, 1)), 1);
+    show_choice(one(job(1801, 3600, 1)), 4294967295);
+    show_choice(one(job(3600, 3600, 0)), 0);
+}
+
+// P5, an example of five zones, P6 and P7's profiles, and A with no room.
+fn zones() {
+    say(b"zones\n");
+    let r = codec::read_profile(&profile_a());
+    let a = r.profile;
+    show_zones(a);
+    show_zones(spans(job(6, 10, 1), job(11, 22, 1), job(19, 40, 1)));
+    show_zones(spans(job(1, 1, 1), job(2, 6, 1), job(35, 35, 1)));
+    show_zones(spans(job(1, 1, 1), job(2, 4, 1), job(35, 35, 1)));
+    let mut none = [0xEEu8; 15];
+    let c = zones::list_zones(a, &mut none);
+    let v = c.verdict;
+    show(v);
+    show_bytes(&none);
+    say(b"\n");
+}
+
 // The length is said so that the array can be lent as a slice.
 fn profile_a() -> [u8; 25]
     ensures { λ r. ⌜ 25 ≡ length r ⌝ }
@@ -174,6 +211,14 @@ fn one(j: Job) -> Profile {
     counted(1, j)
 }
 
+// Three jobs.
+fn spans(i: Job, j: Job, k: Job) -> Profile {
+    let mut p = counted(3, i);
+    p.jobs[1] = j;
+    p.jobs[2] = k;
+    p
+}
+
 fn two(j: Job) -> Profile {
     counted(2, j)
 }
@@ -226,6 +271,41 @@ fn show_score(p: Profile, ts: [Seconds; 8]) {
     show(v);
     number(r.need.0 as u64);
     number(r.loss);
+}
+
+fn show_choice(p: Profile, budget: u32) {
+    let c = choose::choose(p, PagesPerHour(budget));
+    let v = c.verdict;
+    show(v);
+    field(c.need.0);
+    io::print_decimal(STDOUT_FILENO, c.loss);
+    let ts = c.periods;
+    show_periods(ts);
+    say(b"\n");
+}
+
+fn show_periods(ts: [Seconds; 8]) {
+    let mut k: usize = 0;
+    while k < 8 {
+        show_period(ts[k]);
+        k += 1;
+    }
+}
+
+fn show_period(t: Seconds) {
+    say(b" ");
+    io::print_decimal(STDOUT_FILENO, t.0 as u64);
+}
+
+// The zones, in a room for five and a byte more.
+fn show_zones(p: Profile) {
+    let mut out = [0xEEu8; 81];
+    let c = zones::list_zones(p, &mut out);
+    let v = c.verdict;
+    show(v);
+    number(c.count);
+    show_bytes(&out);
+    say(b"\n");
 }
 
 fn show_profile(p: Profile) {
