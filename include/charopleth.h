@@ -1,11 +1,21 @@
 /* Charopleth: a proved planner for the write jobs of call recorders.
  *
- * A profile as values is n, the number of jobs, and 40 numbers: lo, hi, data, metadata and stiffness of each of eight
- * jobs. lo and hi are seconds, data and metadata the pages of one run. Jobs beyond n are ignored. Every value may be
- * given: what is out of range is refused.
+ * A profile as values is n, the number of jobs, and 40 numbers, job after job, five for each: numbers 5i to 5i + 4 are lo,
+ * hi, data, metadata and stiffness of job i, counted from 0. lo and hi are the shortest and the longest period in seconds,
+ * data and metadata the pages of one run. Jobs beyond n are ignored. Every value may be given; these are refused, the first
+ * that applies, with the job's number from 1 as the detail but for 3:
+ *
+ *     3  n is 0 or above 8
+ *     5  lo is 0, hi below lo, or hi above 3,600
+ *     6  stiffness outside 1 to 32
+ *     8  data or metadata above 32,767
  *
  * Each function returns a number of 64 bits: the high 16 bits are the refusal's number, 0 for none, and the low 48 its
- * detail, or a count. On a refusal no array is changed. A detail of 2^48 or more is told as 2^48 - 1.
+ * detail, or where nothing is refused the count that is said below. A detail or count of 2^48 or more, which no memory holds,
+ * is told as 2^48 - 1. On a refusal no array and no buffer is changed.
+ *
+ * What is proved holds for pointers to arrays of the length that is said, aligned, not null where the length is not 0, and
+ * not overlapping one another. Nothing is kept between calls, and nothing is allocated.
  */
 #ifndef CHAROPLETH_H
 #define CHAROPLETH_H
@@ -13,12 +23,27 @@
 #include <stddef.h>
 #include <stdint.h>
 
+#ifdef __cplusplus
+extern "C" {
+#endif
+
 #define CHAROPLETH_REFUSAL(result) ((unsigned)((result) >> 48))
 #define CHAROPLETH_DETAIL(result) ((result) & 0xffffffffffffu)
 
-/* The best periods for a budget of flash pages per hour. answer: need, loss, and eight periods, 0 beyond n.
- * Refuses a profile that is not valid (3, 5, 6, 8), 9 where no periods are permitted, and 10 where none fit the budget,
- * with the least budget that would do. */
+/* The best periods for a budget of flash pages per hour: among permitted periods that fit it those with the least loss, on
+ * equal loss the least need, on equal need the list that is smaller at its first difference. answer: the need in pages per
+ * hour, the loss, and eight periods in seconds, 0 beyond n. Returns 0 where periods were chosen. Refuses 9 where no periods
+ * are permitted, and 10 where none fit the budget, with the least budget that would do. */
 uint64_t charopleth_choose(uint32_t n, const uint32_t jobs[40], uint32_t budget, uint64_t answer[10]);
+
+/* The harmonic zones of a profile, a row of sixteen bytes each, at the front of `room`: least and greatest first period and
+ * the multipliers a2 to a8, 12 bits each, then 20 zero bits; multipliers beyond n are 0. By a2, then a3, and so on, rising.
+ * Returns the number of rows; bytes after them are untouched. Refuses 9 where there are none, and 11 where length / 16 rows
+ * are too few, with the number needed. */
+uint64_t charopleth_zones(uint32_t n, const uint32_t jobs[40], uint8_t *room, size_t length);
+
+#ifdef __cplusplus
+}
+#endif
 
 #endif

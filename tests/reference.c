@@ -1,5 +1,6 @@
 #include "reference.h"
 
+#include <stdlib.h>
 #include <string.h>
 
 enum { LO, HI, DATA, METADATA, STIFFNESS };
@@ -22,8 +23,9 @@ uint64_t reference_judge(uint32_t n, const uint32_t jobs[40])
     return 0;
 }
 
-/* One enumeration of all permitted lists, in the order of the lists. */
+/* One enumeration of all permitted lists, in the order of the lists; `visit` is called at each. */
 struct search {
+    void (*visit)(struct search *);
     uint32_t n;
     const uint32_t *jobs;
     uint32_t budget;
@@ -33,6 +35,8 @@ struct search {
     uint64_t least_need;
     uint64_t need, loss;
     uint32_t best[8];
+    uint32_t (*lists)[8];
+    uint64_t listed, space;
 };
 
 /* 3,600 c / T summed over the common denominator Tn, rounded up once. */
@@ -78,7 +82,7 @@ static void weigh(struct search *s)
 static void enumerate(struct search *s, uint32_t i, uint32_t before)
 {
     if (i == s->n) {
-        weigh(s);
+        s->visit(s);
         return;
     }
     for (uint32_t t = before; t <= s->jobs[5 * i + HI]; t += before) {
@@ -98,7 +102,7 @@ uint64_t reference_choose(uint32_t n, const uint32_t jobs[40], uint32_t budget, 
     uint64_t verdict = reference_judge(n, jobs);
     if (verdict != 0)
         return verdict;
-    struct search s = {.n = n, .jobs = jobs, .budget = budget, .left = most};
+    struct search s = {.visit = weigh, .n = n, .jobs = jobs, .budget = budget, .left = most};
     enumerate(&s, 0, 1);
     if (s.gave_up)
         return REFERENCE_LONG;
@@ -111,4 +115,74 @@ uint64_t reference_choose(uint32_t n, const uint32_t jobs[40], uint32_t budget, 
     for (uint32_t i = 0; i < 8; i++)
         answer[2 + i] = i < n ? s.best[i] : 0;
     return 0;
+}
+
+/* A list as its multipliers, and the first period behind them. */
+static void gather(struct search *s)
+{
+    if (s->listed == s->space) {
+        s->space = 2 * s->space + 64;
+        s->lists = realloc(s->lists, s->space * sizeof *s->lists);
+    }
+    uint32_t *list = s->lists[s->listed++];
+    memset(list, 0, sizeof *s->lists);
+    for (uint32_t i = 1; i < s->n; i++)
+        list[i - 1] = s->periods[i] / s->periods[0];
+    list[7] = s->periods[0];
+}
+
+static int in_order(const void *a, const void *b)
+{
+    const uint32_t *x = a, *y = b;
+    for (int i = 0; i < 8; i++)
+        if (x[i] != y[i])
+            return x[i] < y[i] ? -1 : 1;
+    return 0;
+}
+
+/* Twelve bits at a place that is counted in twelve bits, most significant first. */
+static void put_field(uint8_t row[16], int place, uint32_t value)
+{
+    for (int bit = 0; bit < 12; bit++) {
+        int at = 12 * place + bit;
+        if (value >> (11 - bit) & 1)
+            row[at / 8] |= (uint8_t)(0x80 >> at % 8);
+    }
+}
+
+uint64_t reference_zones(uint32_t n, const uint32_t jobs[40], uint8_t *room, uint64_t length, uint64_t most)
+{
+    uint64_t verdict = reference_judge(n, jobs);
+    if (verdict != 0)
+        return verdict;
+    struct search s = {.visit = gather, .n = n, .jobs = jobs, .left = most};
+    enumerate(&s, 0, 1);
+    uint64_t rows = 0, result;
+    if (s.listed)
+        qsort(s.lists, s.listed, sizeof *s.lists, in_order);
+    for (uint64_t i = 0; i < s.listed; i++)
+        rows += i == 0 || memcmp(s.lists[i], s.lists[i - 1], 7 * sizeof(uint32_t)) != 0;
+    if (s.gave_up)
+        result = REFERENCE_LONG;
+    else if (rows == 0)
+        result = refusal(9, 0);
+    else if (length / 16 < rows)
+        result = refusal(11, rows);
+    else {
+        result = rows;
+        uint8_t *row = room;
+        for (uint64_t i = 0; i < s.listed; row += 16) {
+            uint64_t last = i;
+            while (last + 1 < s.listed && memcmp(s.lists[last + 1], s.lists[i], 7 * sizeof(uint32_t)) == 0)
+                last++;
+            memset(row, 0, 16);
+            put_field(row, 0, s.lists[i][7]);
+            put_field(row, 1, s.lists[last][7]);
+            for (int k = 0; k < 7; k++)
+                put_field(row, 2 + k, s.lists[i][k]);
+            i = last + 1;
+        }
+    }
+    free(s.lists);
+    return result;
 }

@@ -118,8 +118,14 @@ fn choices() {
     show_choice(a, 4320);
     show_choice(a, 5399);
     show_choice(a, 5400);
-    show_choice(spans(job(1, 1, 1), job(2, 6, 1), job(35, 35, 1)), 4294967295);
-    show_choice(spans(job(1, 1, 1), job(2, 4, 1), job(35, 35, 1)), 4294967295);
+    show_choice(
+        spans(job(1, 1, 1), job(2, 6, 1), job(35, 35, 1)),
+        4294967295,
+    );
+    show_choice(
+        spans(job(1, 1, 1), job(2, 4, 1), job(35, 35, 1)),
+        4294967295,
+    );
     show_choice(one(job(7, 7, 1)), 514);
     show_choice(one(job(7, 7, 1)), 515);
     show_choice(one(job(1801, 3600, 1)), 1);

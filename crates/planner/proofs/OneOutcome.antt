@@ -7,7 +7,8 @@ use lib.Seq.{sets}
 use Rattle.model.specs.Model.{pagesPerHour, ifSound}
 use Rattle.choose.specs.declared.Choice.{Choice}
 use Rattle.choose.proofs.OneOutcome.{choose-one-outcome}
-use Rattle.planner.specs.ForC.{resultOf, profileIn, answerOf, ChoosesForC}
+use Rattle.zones.proofs.OneOutcome.{list-zones-one-outcome}
+use Rattle.planner.specs.ForC.{resultOf, countedOf, profileIn, answerOf, ChoosesForC, ListsForC}
 
 pub charopleth-choose-one-outcome : (n : ℕ) (jobs : List ℕ) (budget : ℕ) (old : List ℕ) {r s : ℕ} {new other-new : List ℕ} → ChoosesForC n jobs budget old r new → ChoosesForC n jobs budget old s other-new → (r ≡ s) × (new ≡ other-new)
 charopleth-choose-one-outcome n jobs budget old one other =
@@ -15,3 +16,8 @@ charopleth-choose-one-outcome n jobs budget old one other =
       one .result ∙ ap (λ (c : Choice). resultOf (c .verdict)) same ∙ sym (other .result),
       one .answer ∙ ap (λ (c : Choice). ifSound (c .verdict) (sets old 0 (answerOf (c .need) (c .loss) (c .periods))) old) same ∙ sym (other .answer),
     )
+
+pub charopleth-zones-one-outcome : (n : ℕ) (jobs : List ℕ) (old : List ℕ) {r s : ℕ} {new other-new : List ℕ} → ListsForC n jobs old r new → ListsForC n jobs old s other-new → (r ≡ s) × (new ≡ other-new)
+charopleth-zones-one-outcome n jobs old one other =
+    let same = list-zones-one-outcome (profileIn n jobs) old (one .listed) (other .listed) in
+    (one .result ∙ ap countedOf (same .0) ∙ sym (other .result), same .1)

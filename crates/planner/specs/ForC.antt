@@ -11,12 +11,18 @@ use Rattle.model.specs.declared.Job.{Job}
 use Rattle.model.specs.declared.Profile.{Profile}
 use Rattle.model.specs.declared.Verdict.{Verdict}
 use Rattle.model.specs.Model.{seconds, pagesPerHour, entries, numberOf, detailOf, ifSound}
+use Rattle.model.specs.declared.Counted.{Counted}
 use Rattle.choose.specs.declared.Choice.{Choice}
 use Rattle.choose.specs.Choice.{Chosen}
+use Rattle.zones.specs.Zones.{Listed}
 
 -- A verdict as one number: the refusal's number above 48 bits of detail. A detail that they do not hold is told as their greatest.
 unfoldable pub resultOf : Verdict → ℕ
 resultOf v = numberOf v * 2 ^ 48 + min (detailOf v) (2 ^ 48 - 1)
+
+-- A count as one number, or the refusal beside it.
+unfoldable pub countedOf : Counted → ℕ
+countedOf c = ifSound (c .verdict) (min (c .count) (2 ^ 48 - 1)) (resultOf (c .verdict))
 
 -- The job whose five numbers stand from a place on: lo, hi, data, metadata, stiffness.
 abbrev pub jobIn : List ℕ → ℕ → Job
@@ -39,3 +45,9 @@ pub record ChoosesForC (n : ℕ) (jobs : List ℕ) (budget : ℕ) (old : List �
   pub chosen : Chosen (profileIn n jobs) (pagesPerHour budget) choice
   pub result : r ≡ resultOf (choice .verdict)
   pub answer : new ≡ ifSound (choice .verdict) (sets old 0 (answerOf (choice .need) (choice .loss) (choice .periods))) old
+
+-- What `charopleth_zones` may answer, and leave of a room that held `old`: as the lister has it.
+pub record ListsForC (n : ℕ) (jobs : List ℕ) (old : List ℕ) (r : ℕ) (new : List ℕ) : Type 0 where
+  pub listing : Counted
+  pub listed : Listed (profileIn n jobs) old listing new
+  pub result : r ≡ countedOf listing

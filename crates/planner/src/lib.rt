@@ -2,6 +2,7 @@
 //
 // specs/ForC.antt says how values, answers and verdicts look there. Nothing is assumed, and no public function has a
 // `requires`.
+use model::Counted;
 use model::Job;
 use model::PagesPerHour;
 use model::Profile;
@@ -10,7 +11,7 @@ use model::Verdict;
 ghost use mathlib.Core.Path.{_≡_};
 ghost use Prim.Native.Nat.{_<_};
 ghost use lib.Seq.{sets};
-ghost use Rattle.planner.specs.ForC.{resultOf, jobIn, profileIn, ChoosesForC, answerOf};
+ghost use Rattle.planner.specs.ForC.{resultOf, countedOf, jobIn, profileIn, answerOf, ChoosesForC, ListsForC};
 
 // The best periods for a budget.
 #[no_mangle]
@@ -30,6 +31,29 @@ pub extern "C" fn charopleth_choose(
     let periods = c.periods;
     put_answer(c.need, c.loss, periods, answer);
     0
+}
+
+// The rows of all zones to the front of a lent room; the count of rows.
+#[no_mangle]
+pub extern "C" fn charopleth_zones(n: u32, jobs: &[u32; 40], room: &mut [u8]) -> u64
+    ensures { λ r. ⌜ ListsForC n (now (jobs .entry)) (now (room .entry)) r (now (room .exit)) ⌝ }
+{
+    let c = zones::list_zones(profile(n, jobs), room);
+    counted(c)
+}
+
+// A count, or the refusal beside which it is 0, as one number.
+fn counted(c: Counted) -> u64
+    ensures { λ r. ⌜ r ≡ countedOf c ⌝ }
+{
+    let v = c.verdict;
+    let Verdict::Sound = v else {
+        return result(v);
+    };
+    if 0xffff_ffff_ffff < c.count {
+        return 0xffff_ffff_ffff;
+    }
+    c.count
 }
 
 // Need, loss and eight periods into ten numbers.
