@@ -4,21 +4,14 @@
 #include <inttypes.h>
 #include <stdio.h>
 #include <string.h>
-#include <time.h>
 
 #include "charopleth.h"
 #include "reference.h"
+#include "timing.h"
 #include "walk.h"
 
 /* At most this many times the C walk, and at most a hundredth of enumeration. */
 static const double most_of_walk = 1.5, least_of_enumeration = 100;
-
-static double now(void)
-{
-    struct timespec t;
-    clock_gettime(CLOCK_PROCESS_CPUTIME_ID, &t);
-    return t.tv_sec + t.tv_nsec * 1e-9;
-}
 
 typedef uint64_t chooser(uint32_t, const uint32_t[40], uint32_t, uint64_t[10]);
 

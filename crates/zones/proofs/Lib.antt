@@ -1,7 +1,7 @@
 pub mod Bound
 pub mod Climbing
 pub mod Copied
-pub mod Counting
+pub mod Coming
 pub mod Flat
 pub mod Listing
 pub mod Numbers

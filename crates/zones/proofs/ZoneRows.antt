@@ -15,8 +15,8 @@ use Rattle.codec.specs.Rows.{rowBytes, withRow}
 use Rattle.codec.proofs.Packing.{length-recut}
 use Rattle.codec.proofs.Rows.{row-of-words, row-in}
 use Rattle.zones.specs.Zones.{Zone, zoneWidths, zoneFields, rowsOf}
-use Rattle.zones.specs.Listing.{Walk, after, current, coming, Opens, WentOn, RowNumbers, highWord, lowWord}
-use Rattle.zones.proofs.Counting.{coming-true, coming-false}
+use Rattle.zones.specs.Listing.{Wrote, Walk, after, current, coming, Opens, WentOn, RowNumbers, highWord, lowWord}
+use Rattle.zones.proofs.Coming.{coming-true, coming-false}
 
 getD-zeros : (k j : ℕ) → _≡_ {A = ℕ} (getD (replicate k 0) j 0) 0
 getD-zeros zero j = refl
@@ -100,26 +100,26 @@ here-at xs k y ys h e =
       left = ap (drop (k + 1)) snoc ∙ drop-at (take k xs ++ (y ∷ [])) ys (k + 1) more;
     }
 
--- writing, after `row` rows: they stand at the front, and behind them what stood there at the start
+-- writing, after `row` rows: where there is room for all they stand at the front, and behind them what stood there at the start
 pub record Writing (all : List Zone) (old out : List ℕ) (w : Walk) (row : ℕ) (found : Bool) : Type 0 where
   pub rest : coming w found ≡ drop row all
   pub upto : row ≤ length all
   pub opens : found ≡ true → Opens w (w .n)
   pub beyond : drop (w .n) (w .multipliers) ≡ drop (w .n) (replicate 8 0)
   pub same : length out ≡ length old
-  pub bytes : out ≡ rowsOf (take row all) ++ drop (16 * row) old
+  pub bytes : length all ≤ length old / 16 → out ≡ rowsOf (take row all) ++ drop (16 * row) old
 
 pub none-written : {all : List Zone} {old : List ℕ} {w : Walk} {found : Bool} → WentOn all (replicate 8 0) w found → Writing all old old w 0 found
 unfolding rowsOf
-none-written o = record { rest = sym (o .zones); upto = omega arith; opens = o .opens; beyond = o .beyond; same = refl; bytes = refl }
+none-written o = record { rest = sym (o .zones); upto = omega arith; opens = o .opens; beyond = o .beyond; same = refl; bytes = λ room. refl }
 
 module _ (all : List Zone) (old out : List ℕ) (w : Walk) (row : ℕ) (found : Bool) (i : Writing all old out w row found) where
-  pub all-written : found ≡ false → out ≡ rowsOf all ++ drop (16 * length all) old
+  pub all-written : found ≡ false → Wrote all old out row
   all-written e =
       let none : drop row all ≡ [] = sym (i .rest) ∙ coming-false w found e in
       let done : row ≡ length all = omega (arith, i .upto, length-drop row all, ap length none) in
       let whole : take row all ≡ all = sym (append-nil (take row all)) ∙ ap (λ (l : List Zone). take row all ++ l) (sym none) ∙ take-append-drop row all in
-      i .bytes ∙ ap₂ (λ (zs : List Zone) (k : ℕ). rowsOf zs ++ drop (16 * k) old) whole done
+      record { count = done; bytes = λ room. i .bytes room ∙ ap₂ (λ (zs : List Zone) (k : ℕ). rowsOf zs ++ drop (16 * k) old) whole done }
 
   module _ (here : found ≡ true) where
     at-row : Here all row (current w) (after w (w .n))
@@ -131,28 +131,33 @@ module _ (all : List Zone) (old out : List ℕ) (w : Walk) (row : ℕ) (found : 
     pub numbers : RowNumbers (getD (w .least) (w .n - 1) 0) (getD (w .greatest) (w .n - 1) 0) (w .multipliers)
     numbers = row-numbers w (i .opens here) (i .beyond)
 
-    pub one-written : {w′ : Walk} {found′ : Bool} {new : List ℕ} (high low : ℕ) → length all ≤ length old / 16
-        → high ≡ highWord (getD (w .least) (w .n - 1) 0) (getD (w .greatest) (w .n - 1) 0) (w .multipliers) → low ≡ lowWord (w .multipliers)
-        → length new ≡ length out → new ≡ withRow out row (rowBytes high low)
-        → WentOn (after w (w .n)) (w .multipliers) w′ found′ → w′ .n ≡ w .n → Writing all old new w′ (row + 1) found′
-    one-written {w′} high low room eh el size e o n =
+    bytes-more : {new : List ℕ} (high low : ℕ) → high ≡ highWord (getD (w .least) (w .n - 1) 0) (getD (w .greatest) (w .n - 1) 0) (w .multipliers) → low ≡ lowWord (w .multipliers)
+        → new ≡ withRow out row (rowBytes high low) → length all ≤ length old / 16 → new ≡ rowsOf (take (row + 1) all) ++ drop (16 * (row + 1)) old
+    bytes-more high low eh el e room =
         let P = rowsOf (take row all) in
         let R = recut zoneWidths (byteWidths 16) (zoneFields (current w)) in
         let D = drop (16 * row) old in
         let front : length P ≡ 16 * row = length-rows (take row all) ∙ ap (λ (k : ℕ). 16 * k) (length-take-le row all (i .upto)) in
-        let before-it : take (16 * row) out ≡ P = ap (take (16 * row)) (i .bytes) ∙ take-at P D (16 * row) front in
+        let before-it : take (16 * row) out ≡ P = ap (take (16 * row)) (i .bytes room) ∙ take-at P D (16 * row) front in
         let place : 16 * row + 16 ≡ length P + 16 = omega arith in
         let next : 16 * row + 16 ≡ 16 * (row + 1) = omega arith in
-        let after-it : drop (16 * row + 16) out ≡ drop (16 * (row + 1)) old = ap (drop (16 * row + 16)) (i .bytes) ∙ ap (λ (k : ℕ). drop k (P ++ D)) place ∙ drop-append-add P D 16 ∙ drop-drop 16 (16 * row) old ∙ ap (λ (k : ℕ). drop k old) next in
+        let after-it : drop (16 * row + 16) out ≡ drop (16 * (row + 1)) old = ap (drop (16 * row + 16)) (i .bytes room) ∙ ap (λ (k : ℕ). drop k (P ++ D)) place ∙ drop-append-add P D 16 ∙ drop-drop 16 (16 * row) old ∙ ap (λ (k : ℕ). drop k old) next in
         let is : rowBytes high low ≡ R = ap₂ rowBytes eh el ∙ sym (current-row w (i .opens here) (i .beyond)) in
         let inside : row < length out / 16 = subst (λ (k : ℕ). row < k / 16) (sym (i .same)) (omega (arith, at-row .inside)) in
+        e ∙ row-in out (rowBytes high low) row inside ∙ ap₂ (λ (a b : List ℕ). a ++ (rowBytes high low ++ b)) before-it after-it ∙ ap (λ (r : List ℕ). P ++ (r ++ drop (16 * (row + 1)) old)) is ∙ sym (append-assoc P R (drop (16 * (row + 1)) old)) ∙ ap (λ (l : List ℕ). l ++ drop (16 * (row + 1)) old) (sym (rows-snoc (take row all) (current w)) ∙ ap rowsOf (sym (at-row .taken)))
+
+    pub one-written : {w′ : Walk} {found′ : Bool} {new : List ℕ} (high low : ℕ)
+        → high ≡ highWord (getD (w .least) (w .n - 1) 0) (getD (w .greatest) (w .n - 1) 0) (w .multipliers) → low ≡ lowWord (w .multipliers)
+        → length new ≡ length out → new ≡ withRow out row (rowBytes high low)
+        → WentOn (after w (w .n)) (w .multipliers) w′ found′ → w′ .n ≡ w .n → Writing all old new w′ (row + 1) found′
+    one-written {w′} {found′} {new} high low eh el size e o n =
         record {
           rest = sym (o .zones) ∙ sym (at-row .left);
           upto = omega (arith, at-row .inside);
           opens = o .opens;
           beyond = o .beyond ∙ subst (λ (k : ℕ). drop k (w .multipliers) ≡ drop k (replicate 8 0)) (sym n) (i .beyond);
           same = size ∙ i .same;
-          bytes = e ∙ row-in out (rowBytes high low) row inside ∙ ap₂ (λ (a b : List ℕ). a ++ (rowBytes high low ++ b)) before-it after-it ∙ ap (λ (r : List ℕ). P ++ (r ++ drop (16 * (row + 1)) old)) is ∙ sym (append-assoc P R (drop (16 * (row + 1)) old)) ∙ ap (λ (l : List ℕ). l ++ drop (16 * (row + 1)) old) (sym (rows-snoc (take row all) (current w)) ∙ ap rowsOf (sym (at-row .taken)));
+          bytes = λ room. bytes-more high low eh el e room;
         }
 
     pub fewer-left : {w′ : Walk} {found′ : Bool} → WentOn (after w (w .n)) (w .multipliers) w′ found′ → length (coming w′ found′) < length (coming w found)

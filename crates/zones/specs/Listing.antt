@@ -9,7 +9,7 @@ use lib.Dec.{ltb}
 use Rattle.model.specs.declared.Job.{Job}
 use Rattle.model.specs.declared.Profile.{Profile}
 use Rattle.model.specs.Model.{seconds, noJob, roundUp}
-use Rattle.zones.specs.Zones.{Zone}
+use Rattle.zones.specs.Zones.{Zone, rowsOf}
 
 -- The two ends of a job's interval.
 pub record Span : Type 0 where
@@ -185,3 +185,8 @@ highWord least greatest ms = least * 2 ^ 52 + (greatest * 2 ^ 40 + (getD ms 1 0 
 
 abbrev pub lowWord : List ℕ → ℕ
 lowWord ms = getD ms 4 0 % 2 ^ 8 * 2 ^ 56 + (getD ms 5 0 * 2 ^ 44 + (getD ms 6 0 * 2 ^ 32 + getD ms 7 0 * 2 ^ 20))
+
+-- A walk through all zones: their number, and where the buffer has room for all of them their rows at its front.
+pub record Wrote (all : List Zone) (old new : List ℕ) (r : ℕ) : Type 0 where
+  pub count : r ≡ length all
+  pub bytes : length all ≤ length old / 16 → new ≡ rowsOf all ++ drop (16 * length all) old

@@ -17,7 +17,7 @@ ghost use Prim.Native.Nat.{_+_, _*_, _/_, _^_, _≤_, _<_, min, max};
 ghost use lib.ListN.{length, drop};
 ghost use Rattle.model.specs.Model.{roundUp};
 ghost use Rattle.zones.specs.Zones.{Listed, rowsOf};
-ghost use Rattle.zones.specs.Listing.{IntervalsOf, Spans, spansFrom, zonesIn, walk, after, toOpen, toTry, Sized, Opens, Tries, WentOn, RowNumbers, highWord, lowWord};
+ghost use Rattle.zones.specs.Listing.{IntervalsOf, Spans, spansFrom, zonesIn, walk, after, toOpen, toTry, Sized, Opens, Tries, WentOn, RowNumbers, highWord, lowWord, Wrote};
 
 // Writes the rows of all zones to the front of `out`, or refuses: the profile's own refusal, 9, then 11 with the rows needed.
 pub fn list_zones(p: Profile, out: &mut [u8]) -> Counted
@@ -34,7 +34,8 @@ pub fn list_zones(p: Profile, out: &mut [u8]) -> Counted
     let mut shortest = [0u32; 8];
     let mut longest = [0u32; 8];
     intervals(p, &mut shortest, &mut longest);
-    let count = count_zones(n, &shortest, &longest);
+    let mut nowhere = [0u8; 1];
+    let count = write_zones(n, &shortest, &longest, &mut nowhere);
     if count == 0 {
         return Counted {
             verdict: Verdict::NoPeriods,
@@ -70,41 +71,11 @@ fn intervals(p: Profile, shortest: &mut [u32; 8], longest: &mut [u32; 8])
     }
 }
 
-// How many zones there are.
-fn count_zones(n: usize, shortest: &[u32; 8], longest: &[u32; 8]) -> usize
+// Goes through all zones and writes their rows to the front of `out` where it has room for all; their number. One loop
+// serves counting, in no room, and writing: so the walk is compiled into it.
+fn write_zones(n: usize, shortest: &[u32; 8], longest: &[u32; 8], out: &mut [u8]) -> usize
     requires { ⌜ Spans n (now shortest) (now longest) × (length (zonesIn (spansFrom (now shortest) (now longest) 0 n)) < 2 ^ 31) ⌝ }
-    ensures { λ r. ⌜ r ≡ length (zonesIn (spansFrom (now (shortest .entry)) (now (longest .entry)) 0 n)) ⌝ }
-{
-    let mut multipliers = [0u32; 8];
-    let mut least = [0u32; 8];
-    let mut greatest = [0u32; 8];
-    let mut count: usize = 0;
-    let mut found = first_zone(
-        n,
-        shortest,
-        longest,
-        &mut multipliers,
-        &mut least,
-        &mut greatest,
-    );
-    while found {
-        count += 1;
-        found = next_zone(
-            n,
-            shortest,
-            longest,
-            &mut multipliers,
-            &mut least,
-            &mut greatest,
-        );
-    }
-    count
-}
-
-// The rows of all zones to the front of `out`, which has room for them.
-fn write_zones(n: usize, shortest: &[u32; 8], longest: &[u32; 8], out: &mut [u8])
-    requires { ⌜ Spans n (now shortest) (now longest) × (length (zonesIn (spansFrom (now shortest) (now longest) 0 n)) ≤ length (now out) / 16) ⌝ }
-    ensures { λ _. ⌜ now (out .exit) ≡ rowsOf (zonesIn (spansFrom (now (shortest .entry)) (now (longest .entry)) 0 n)) ++ drop (16 * length (zonesIn (spansFrom (now (shortest .entry)) (now (longest .entry)) 0 n))) (now (out .entry)) ⌝ }
+    ensures { λ r. ⌜ Wrote (zonesIn (spansFrom (now (shortest .entry)) (now (longest .entry)) 0 n)) (now (out .entry)) (now (out .exit)) r ⌝ }
 {
     let mut multipliers = [0u32; 8];
     let mut least = [0u32; 8];
@@ -136,6 +107,7 @@ fn write_zones(n: usize, shortest: &[u32; 8], longest: &[u32; 8], out: &mut [u8]
             &mut greatest,
         );
     }
+    row
 }
 
 // The first eight bytes of a zone's row: the range, a2 to a4, and the four high bits of a5.

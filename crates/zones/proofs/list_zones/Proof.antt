@@ -2,13 +2,14 @@
 -- Assumes nothing.
 use mathlib.Core.Path.{_≡_, refl, sym, _∙_, ap, subst}
 use mathlib.Core.List.{List, _++_}
-use Prim.Native.Nat.{ℕ, _*_, _/_, _≤_}
+use Prim.Native.Nat.{ℕ, _*_, _/_, _^_, _≤_, _<_}
 use borrow.Author.Needs.{needs}
 use lib.ListN.{length, drop}
 use Rattle.model.specs.declared.Verdict.the-variants.{Sound}
 use Rattle.model.specs.Model.{verdictOf}
 use Rattle.model.proofs.Validity.{sound-valid}
 use Rattle.model.proofs.Verdicts.{refuses, refused-stays}
+use Rattle.zones.specs.Listing.{Spans, spansFrom, zonesIn}
 use Rattle.zones.specs.Zones.{Zone, rowsOf, listVerdict}
 use Rattle.zones.proofs.Copied.{spans-within}
 use Rattle.zones.proofs.Outcome.{zonesOf, handed-on, none-listed, no-room, all-listed, zones-are, few-zones}
@@ -18,11 +19,24 @@ use Rattle.zones.proofs.list_zones.Tie as tie
 sound : (e : tie.After-enum-told) → verdictOf (e .before .before .before .before .args .p) ≡ Sound
 sound e = sym (e .before .before .judge .ensures) ∙ e .enum-told .given .1
 
-abbrev told : tie.After-count-zones → tie.After-enum-told
-told k = k .before .before .before .before .before .before .before
+abbrev told : tie.After-write-zones → tie.After-enum-told
+told k = k .before .before .before .before .before .before .before .before
 
-counted : (k : tie.After-count-zones) → k .count-zones .result ≡ length (zonesOf (told k .before .before .before .before .args .p))
-counted k = k .count-zones .ensures ∙ ap length (zones-are _ _ _ (k .before .before .before .intervals .ensures))
+counted : (k : tie.After-write-zones) → k .write-zones .result ≡ length (zonesOf (told k .before .before .before .before .args .p))
+counted k = k .write-zones .ensures .count ∙ ap length (zones-are _ _ _ (k .before .before .before .before .intervals .ensures))
+
+-- the arrays hold intervals, and few zones
+Walkable : tie.After-intervals → Type 0
+Walkable i =
+    let n = i .before .before .before .before .before .before .before .before .args .p .n in
+    let a = i .intervals .last in
+    Spans n (a .1 .0) (a .1 .1 .0) × (length (zonesIn (spansFrom (a .1 .0) (a .1 .1 .0) 0 n)) < 2 ^ 31)
+
+walkable : (i : tie.After-intervals) → Walkable i
+unfolding Walkable
+walkable i =
+    let v = sound-valid _ (sound (i .before .before .before .before)) in
+    (spans-within _ _ _ v (i .intervals .ensures), few-zones _ _ _ v (i .intervals .ensures))
 
 judge-requires : tie.Need-judge-requires
 judge-requires c κs = search needs
@@ -42,28 +56,30 @@ cast-n c = search needs
 intervals-requires : tie.Need-intervals-requires
 intervals-requires c κs = (sound-valid _ (sound (c .before .before .before)) .n-to, refl, refl)
 
-count-zones-requires : tie.Need-count-zones-requires
-count-zones-requires c κs =
-    let i = c .before .before in
-    let v = sound-valid _ (sound (i .before .before .before .before)) in
-    (spans-within _ _ _ v (i .intervals .ensures), few-zones _ _ _ v (i .intervals .ensures))
+slice-aggregate-write-zones : tie.Need-slice-aggregate-write-zones
+slice-aggregate-write-zones c = search needs
+
+write-zones-requires : tie.Need-write-zones-requires
+unfolding Walkable
+write-zones-requires c κs =
+    let i = c .before .before .before in
+    walkable i
 
 returns-2 : tie.Need-returns-2
 returns-2 c =
-    let k = c .before in
+    let k = c .before .before in
     none-listed _ _ _ (sound (told k)) (counted k) (c .if1 .taken)
 
 returns-3 : tie.Need-returns-3
 returns-3 c =
-    let k = c .before .before in
+    let k = c .before .before .before in
     no-room _ _ _ (sound (told k)) (counted k) (c .before .if1 .left) (c .if2 .taken)
 
-write-zones-requires : tie.Need-write-zones-requires
-write-zones-requires c κs =
-    let e = c .before .before .before in
-    let k = e .before .before in
-    let i = k .before .before .before in
-    (spans-within _ _ _ (sound-valid _ (sound (told k))) (i .intervals .ensures), subst (λ (n : ℕ). n ≤ length (told k .before .before .before .before .args .out .now) / 16) (k .count-zones .ensures) (e .if2 .left))
+write-zones-requires-2 : tie.Need-write-zones-requires-2
+unfolding Walkable
+write-zones-requires-2 c κs =
+    let k = c .before .before .before .before .before .before in
+    walkable (k .before .before .before .before)
 
 same-length : tie.Need-same-length
 same-length c = search needs
@@ -72,9 +88,9 @@ returns-4 : tie.Need-returns-4
 returns-4 c =
     let w = c .before .before in
     let e = w .before .before .before .before in
-    let k = e .before .before in
+    let k = e .before .before .before in
     let old = told k .before .before .before .before .args .out .now in
-    all-listed _ old _ (sound (told k)) (counted k) (e .before .if1 .left) (e .if2 .left) _ (w .write-zones .ensures ∙ ap (λ (zs : List Zone). rowsOf zs ++ drop (16 * length zs) old) (zones-are _ _ _ (k .before .before .before .intervals .ensures)))
+    all-listed _ old _ (sound (told k)) (counted k) (e .before .if1 .left) (e .if2 .left) _ (w .write-zones2 .ensures .bytes (subst (λ (m : ℕ). m ≤ length old / 16) (k .write-zones .ensures .count) (e .if2 .left)) ∙ ap (λ (zs : List Zone). rowsOf zs ++ drop (16 * length zs) old) (zones-are _ _ _ (k .before .before .before .before .intervals .ensures)))
 
 pub list-zones-spec : {M : Type 1} → statement M
 list-zones-spec =
@@ -85,9 +101,10 @@ list-zones-spec =
     returns
     cast-n
     intervals-requires
-    count-zones-requires
+    slice-aggregate-write-zones
+    write-zones-requires
     returns-2
     returns-3
-    write-zones-requires
+    write-zones-requires-2
     same-length
     returns-4)

@@ -1,4 +1,4 @@
--- `zones::write_zones` meets its contract: before each turn the rows of the zones passed stand at the front, and the others are to come.
+-- `zones::write_zones` meets its contract: before each turn the rows of the zones passed stand at the front, if all have room, and the others are to come.
 -- Assumes nothing.
 use mathlib.Core.Path.{refl}
 use native.Mathlib.Omega.{arith}
@@ -61,7 +61,7 @@ put-row-requires c κs = search needs
 add-row : tie.Need-add-row Inv-loop μ-loop
 add-row c =
     let i = c .before .before .before .before .before .before .before .before in
-    omega (arith, row-inside _ _ _ _ _ _ (i .before .loop .inv) (i .loop-test .taken), start i .pre .1, start i .good)
+    omega (arith, row-inside _ _ _ _ _ _ (i .before .loop .inv) (i .loop-test .taken), start i .pre .1)
 
 next-zone-requires : tie.Need-next-zone-requires Inv-loop μ-loop
 next-zone-requires c κs =
@@ -79,7 +79,7 @@ loop-again c =
     let low = put .before .before in
     let high = low .before .before in
     let i = high .before .before in
-    one-written _ _ _ _ _ _ (i .before .loop .inv) (i .loop-test .taken) _ _ (start i .pre .1) (high .high-word .ensures) (low .low-word .ensures) (put .put-row .kept .0) (put .put-row .ensures) (c .next-zone .ensures) refl
+    one-written _ _ _ _ _ _ (i .before .loop .inv) (i .loop-test .taken) _ _ (high .high-word .ensures) (low .low-word .ensures) (put .put-row .kept .0) (put .put-row .ensures) (c .next-zone .ensures) refl
 
 same-length : tie.Need-same-length Inv-loop μ-loop
 same-length c = c .before .loop .inv .same

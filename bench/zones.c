@@ -1,0 +1,74 @@
+/* Measures the zone lister against one of the same form in C, on the worst profile and on profile A many times, in one run,
+ * on a stack of 256 KB. Ends with status 1 where the rows differ or the bound is broken. */
+#define _POSIX_C_SOURCE 200112L
+#include <inttypes.h>
+#include <pthread.h>
+#include <stdio.h>
+#include <stdlib.h>
+#include <string.h>
+
+#include "charopleth.h"
+#include "lister.h"
+#include "timing.h"
+
+static const double most_of_lister = 1.5;
+
+typedef uint64_t lister(uint32_t, const uint32_t[40], uint8_t *, size_t);
+
+static int failed;
+
+static double seconds_for(lister *f, uint32_t n, const uint32_t jobs[40], uint8_t *room, size_t length, int times)
+{
+    double start = now();
+    for (int i = 0; i < times; i++)
+        f(n, jobs, room, length);
+    return now() - start;
+}
+
+static void measure(const char *name, uint32_t n, const uint32_t jobs[40], int times)
+{
+    size_t rows = (size_t)CHAROPLETH_DETAIL(charopleth_zones(n, jobs, 0, 0)), length = 16 * rows;
+    uint8_t *have = malloc(length), *want = malloc(length);
+    if (!have || !want) {
+        printf("no memory for %zu rows\n", rows);
+        failed = 1;
+        return;
+    }
+    double proved = 1e9, by_hand = 1e9;
+    for (int run = 0; run < 5; run++) {
+        double p = seconds_for(charopleth_zones, n, jobs, have, length, times), h = seconds_for(lister_zones, n, jobs, want, length, times);
+        proved = p < proved ? p : proved;
+        by_hand = h < by_hand ? h : by_hand;
+    }
+    double ratio = proved / by_hand;
+    printf("%-30s %10zu zones  %12.1f us  %5.2f x the lister in C\n", name, rows, proved / times * 1e6, ratio);
+    if (ratio > most_of_lister || memcmp(have, want, length) != 0)
+        failed = 1;
+    free(have);
+    free(want);
+}
+
+static void *all(void *unused)
+{
+    static const uint32_t a[40] = {20, 25, 9, 1, 1, 43, 74, 18, 2, 1, 45, 100, 36, 4, 1};
+    uint32_t worst[40];
+    for (int i = 0; i < 8; i++) {
+        uint32_t job[5] = {1, 3600, 1, 0, 1};
+        memcpy(worst + 5 * i, job, sizeof job);
+    }
+    measure("zones of 8 jobs [1,3600]", 8, worst, 1);
+    measure("zones of profile A", 3, a, 20000);
+    return unused;
+}
+
+int main(void)
+{
+    pthread_t thread;
+    pthread_attr_t small;
+    if (pthread_attr_init(&small) || pthread_attr_setstacksize(&small, 262144) || pthread_create(&thread, &small, all, 0) || pthread_join(thread, 0)) {
+        printf("no thread with a stack of 256 KB\n");
+        return 2;
+    }
+    printf(failed ? "bench: a bound is broken\n" : "bench: within %.1f x the lister in C, in a stack of 256 KB\n", most_of_lister);
+    return failed;
+}
