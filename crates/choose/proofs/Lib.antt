@@ -18,6 +18,7 @@ pub mod Cuts
 pub mod Lessening
 pub mod Stored
 pub mod Winning
+pub mod Worked
 pub mod Climbing
 pub mod Filled
 pub mod Answered

@@ -1,6 +1,6 @@
 -- What a plan is and when it is right, in the order of document 01. Every public contract of the planner is stated with these
 -- definitions; a comment that renders a rule ends in the rule's place there. Laws about them are in proofs/, which no contract
--- cites. Need, loss and permitted periods are meant for the jobs of a valid profile. Assumes nothing.
+-- cites publicly. Need, loss and permitted periods are meant for the jobs of a valid profile. Assumes nothing.
 use mathlib.Core.Path.{_≡_}
 use mathlib.Core.List.{List, [], _∷_}
 use mathlib.Core.Bool.{Bool, true, false, cond}
