@@ -1,18 +1,18 @@
 -- Rows of sixteen bytes: written as two words, and cut out of packed fields the same way.
 -- Assumes nothing.
-use mathlib.Core.Path.{_≡_, sym, _∙_, ap, ap₂}
+use mathlib.Core.Path.{_≡_, refl, sym, _∙_, ap, ap₂}
 use mathlib.Core.List.{List, [], _∷_, _++_, append-assoc}
 use Prim.Native.Nat.{ℕ, _+_, _*_, _/_, _%_, _^_, _≤_, _<_}
-use native.Mathlib.Nat.{add-comm, mod-eq-of-lt, mod-lt}
+use native.Mathlib.Nat.{add-comm, add-mul, mul-assoc, mod-eq-of-lt, mod-lt, suc-inj, suc-ne-zero}
 use native.Mathlib.Omega.{arith}
 use lib.Arith.{digits-lt}
-use lib.Pow.{pow-pos, high, low, shr-shr, field, mod-mod-pow}
-use lib.ListN.{length, take, drop, length-append}
-use lib.Seq.{length-take-le, take-at, drop-drop, drop-append-add}
+use lib.Pow.{pow-pos, pow-add, high, low, shr-shr, field, mod-mod-pow}
+use lib.ListN.{length, take, drop, length-append, length-drop}
+use lib.Seq.{length-take-le, take-at, take-add, drop-drop, drop-append-add}
 use borrow.Author.Tests.{lt-ltb, le-ltb}
 use Rattle.codec.specs.Packing.{bits, pack, unpack, recut}
 use Rattle.codec.specs.Layout.{byteWidths}
-use Rattle.codec.specs.Rows.{rowBytes, withRow}
+use Rattle.codec.specs.Rows.{rowBytes, withRow, wordsAt}
 use Rattle.codec.proofs.Packing.{length-unpack}
 
 bits-append : (vs us : List ℕ) → bits (vs ++ us) ≡ bits vs + bits us
@@ -75,3 +75,22 @@ row-out old k h l room = rw (le-ltb k (length old / 16) room)
 pub row-in : (old row : List ℕ) (k : ℕ) → k < length old / 16 → withRow old k row ≡ take (16 * k) old ++ (row ++ drop (16 * k + 16) old)
 unfolding withRow
 row-in old row k room = rw (lt-ltb k (length old / 16) room)
+
+-- fields one after the other
+pack-append : (vs us fs gs : List ℕ) → length vs ≡ length fs → pack (vs ++ us) (fs ++ gs) ≡ pack vs fs * 2 ^ bits us + pack us gs
+unfolding pack bits
+pack-append [] us [] gs e = omega arith
+pack-append [] us (f ∷ fs) gs e = absurd (suc-ne-zero (length fs) (sym e))
+pack-append (v ∷ vs) us [] gs e = absurd (suc-ne-zero (length vs) e)
+pack-append (v ∷ vs) us (f ∷ fs) gs e =
+    let ih = pack-append vs us fs gs (suc-inj e) in
+    let weight : 2 ^ bits (vs ++ us) ≡ 2 ^ bits vs * 2 ^ bits us = ap (λ (n : ℕ). 2 ^ n) (bits-append vs us) ∙ pow-add 2 (bits vs) (bits us) in
+    rw (weight, ih) (omega (arith, add-mul (f * 2 ^ bits vs) (pack vs fs) (2 ^ bits us), mul-assoc f (2 ^ bits vs) (2 ^ bits us)))
+
+-- a row's two words are its sixteen bytes as one number
+pub row-words : (bytes : List ℕ) (k : ℕ) → k < length bytes / 16 → pack (byteWidths 16) (take 16 (drop (16 * k) bytes)) ≡ wordsAt bytes k .high * 2 ^ 64 + wordsAt bytes k .low
+unfolding wordsAt bits
+row-words bytes k h =
+    let rest = drop (16 * k) bytes in
+    let size : length (take 8 rest) ≡ 8 = length-take-le 8 rest (omega (arith, length-drop (16 * k) bytes)) in
+    rw (lt-ltb k (length bytes / 16) h) (ap (pack (byteWidths 16)) (take-add 8 8 rest) ∙ pack-append (byteWidths 8) (byteWidths 8) (take 8 rest) (take 8 (drop 8 rest)) (sym size) ∙ ap (λ (l : List ℕ). pack (byteWidths 8) (take 8 rest) * 2 ^ 64 + pack (byteWidths 8) (take 8 l)) (drop-drop 8 (16 * k) bytes))

@@ -7,7 +7,8 @@ use lib.Dec.{ltb}
 use Rattle.model.specs.declared.Seconds.{Seconds}
 use Rattle.model.specs.declared.PagesPerHour.{PagesPerHour}
 use Rattle.model.specs.Model.{seconds, entries}
-use Rattle.codec.specs.Packing.{unpack, recut}
+use Rattle.codec.specs.declared.RowWords.{RowWords}
+use Rattle.codec.specs.Packing.{pack, unpack, recut}
 use Rattle.codec.specs.Layout.{byteWidths}
 
 -- Two words of 64 bits as sixteen bytes, the most significant first.
@@ -17,6 +18,10 @@ rowBytes high low = unpack (byteWidths 8) high ++ unpack (byteWidths 8) low
 -- A buffer whose k-th row, counted from 0, is these sixteen bytes; unchanged where it has no such row.
 unfoldable pub withRow : List ℕ → ℕ → List ℕ → List ℕ
 withRow bytes k row = cond (ltb k (length bytes / 16)) (take (16 * k) bytes ++ (row ++ drop (16 * k + 16) bytes)) bytes
+
+-- The two words of a buffer's k-th row, counted from 0; zeros where it has no such row.
+unfoldable pub wordsAt : List ℕ → ℕ → RowWords
+wordsAt bytes k = cond (ltb k (length bytes / 16)) (record { high = pack (byteWidths 8) (take 8 (drop (16 * k) bytes)); low = pack (byteWidths 8) (take 8 (drop (16 * k + 8) bytes)) }) (record { high = 0; low = 0 })
 
 -- A table row: start, then eight periods.
 abbrev pub tableWidths : List ℕ

@@ -14,13 +14,19 @@ ghost use lib.ListN.{length, take, drop};
 ghost use Rattle.model.specs.Model.{noJob, firstRefused, Valid, ValidJob};
 ghost use Rattle.codec.specs.Packing.{pack, unpack};
 ghost use Rattle.codec.specs.Layout.{jobWidths, byteWidths, profileLength, fieldsOf, profileBytes, countOf, recordsIn, judgeRecord, judgeHeader, verdictOfBytes, noProfile, Reads, Writes};
-ghost use Rattle.codec.specs.Rows.{rowBytes, withRow};
+ghost use Rattle.codec.specs.Rows.{rowBytes, withRow, wordsAt};
 ghost use Rattle.codec.specs.Fields.{recordOf, fieldsAt, judgeCut, profileOf};
 
 // What reading answers: the values, all zeros beside a refusal.
 pub struct Reading {
     pub verdict: Verdict,
     pub profile: Profile,
+}
+
+// A row of sixteen bytes as two words, the most significant first.
+pub struct RowWords {
+    pub high: u64,
+    pub low: u64,
 }
 
 // A job's record as its bits have it.
@@ -86,6 +92,20 @@ pub fn put_row(out: &mut [u8], k: usize, high: u64, low: u64)
     if k < out.len() / 16 {
         put_word(out, 16 * k, high);
         put_word(out, 16 * k + 8, low);
+    }
+}
+
+// The two words of the k-th row of sixteen bytes, counted from 0; zeros where there is no such row.
+pub fn get_row(bytes: &[u8], k: usize) -> RowWords
+    ensures { λ r. ⌜ r ≡ wordsAt (now (bytes .entry)) k ⌝ }
+{
+    if k < bytes.len() / 16 {
+        RowWords {
+            high: word_at(bytes, 16 * k),
+            low: word_at(bytes, 16 * k + 8),
+        }
+    } else {
+        RowWords { high: 0, low: 0 }
     }
 }
 

@@ -1,0 +1,70 @@
+-- `table::build_table` meets its contract: the profile's verdict, then the count of its rows, then the room; only what passes all is written.
+-- Assumes nothing.
+use mathlib.Core.Path.{_≡_, sym, _∙_}
+use native.Mathlib.Omega.{arith}
+use borrow.Author.Needs.{needs}
+use Rattle.model.specs.declared.Verdict.the-variants.{Sound}
+use Rattle.model.specs.Model.{verdictOf}
+use Rattle.model.proofs.Validity.{sound-valid}
+use Rattle.model.proofs.Verdicts.{refuses, refused-stays}
+use Rattle.table.specs.Table.{buildVerdict}
+use Rattle.table.proofs.Outcome.{handed-on, none-built, no-room, all-built}
+use Rattle.table.proofs.build_table.Statement.{statement}
+use Rattle.table.proofs.build_table.Tie as tie
+
+sound : (e : tie.After-enum-told) → verdictOf (e .before .before .before .before .args .p) ≡ Sound
+sound e = sym (e .before .before .judge .ensures) ∙ e .enum-told .given .1
+
+judge-requires : tie.Need-judge-requires
+judge-requires c κs = search needs
+
+enum-told : tie.Need-enum-told
+enum-told c = search needs
+
+returns : tie.Need-returns
+unfolding buildVerdict
+returns c =
+    let s = c .before in
+    handed-on _ _ _ (refuses (s .judge .result) (c .match .keys2)) (refused-stays _ (s .judge .ensures) (c .match .keys2))
+
+count-rows-requires : tie.Need-count-rows-requires
+count-rows-requires c κs = sound-valid _ (sound c)
+
+returns-2 : tie.Need-returns-2
+returns-2 c =
+    let k = c .before in
+    none-built _ _ _ (sound (k .before)) (k .count-rows .ensures) (c .if1 .taken)
+
+returns-3 : tie.Need-returns-3
+returns-3 c =
+    let k = c .before .before in
+    no-room _ _ _ (sound (k .before)) (k .count-rows .ensures) (c .before .if1 .left) (omega arith)
+
+write-rows-requires : tie.Need-write-rows-requires
+write-rows-requires c κs =
+    let k = c .before .before .before in
+    (sound-valid _ (sound (k .before)), k .count-rows .ensures, omega arith)
+
+same-length : tie.Need-same-length
+same-length c = search needs
+
+returns-4 : tie.Need-returns-4
+returns-4 c =
+    let w = c .before .before in
+    let e = w .before .before in
+    let k = e .before .before in
+    all-built _ _ _ (sound (k .before)) (k .count-rows .ensures) (e .before .if1 .left) (let room = e .if2 .left in omega arith) _ (w .write-rows .ensures)
+
+pub build-table-spec : {M : Type 1} → statement M
+build-table-spec =
+    tie.close
+    (tie.spec
+    judge-requires
+    enum-told
+    returns
+    count-rows-requires
+    returns-2
+    returns-3
+    write-rows-requires
+    same-length
+    returns-4)

@@ -1,0 +1,2 @@
+pub mod Descent
+pub mod Table

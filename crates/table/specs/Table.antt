@@ -1,0 +1,47 @@
+-- The budget table, its bytes, and what building one answers (document 01, The table, Packing and Refusal numbers).
+-- Cited by public contracts. Assumes nothing.
+use mathlib.Core.Path.{_≡_}
+use mathlib.Core.Logic.{_↔_}
+use mathlib.Core.List.{List, [], _∷_, _++_, List·Memᴰ}
+use Prim.Native.Nat.{ℕ, _*_, _/_, _^_, _<_}
+use lib.ListN.{length, drop}
+use lib.Dec.{eqb, ltb}
+use Rattle.model.specs.declared.Seconds.{Seconds}
+use Rattle.model.specs.declared.PagesPerHour.{PagesPerHour}
+use Rattle.model.specs.declared.Job.{Job}
+use Rattle.model.specs.declared.Profile.{Profile}
+use Rattle.model.specs.declared.Counted.{Counted}
+use Rattle.model.specs.declared.Verdict.{Verdict}
+use Rattle.model.specs.declared.Verdict.the-variants.{Sound, NoPeriods, Room}
+use Rattle.model.specs.Model.{jobsOf, Permitted, need, Best, refuseIf, orElse, ifSound, verdictOf}
+use Rattle.codec.specs.Rows.{tableRow}
+
+-- Each row's need is below that of every later row (The table: rising start).
+abbrev pub Rising : List Job → List (List Seconds) → Type 0
+Rising js [] = Unit {0}
+Rising js (ts ∷ rows) = ((us : List Seconds) → List·Memᴰ us rows → need js ts .0 < need js us .0) × Rising js rows
+
+-- One row for each different best answer as the budget goes through all 32-bit numbers (The table; Quantities).
+pub record TableOf (js : List Job) (rows : List (List Seconds)) : Type 0 where
+  pub some-budget : (ts : List Seconds) → List·Memᴰ ts rows → (b : PagesPerHour) × (b .0 < 2 ^ 32) × Best js b ts
+  pub every-budget : (b : PagesPerHour) (ts : List Seconds) → b .0 < 2 ^ 32 → Best js b ts → List·Memᴰ ts rows
+  pub rising : Rising js rows
+
+-- Table rows one after the other: sixteen bytes each, the start being the need (Packing; The table).
+unfoldable pub tableBytes : List Job → List (List Seconds) → List ℕ
+tableBytes js [] = []
+tableBytes js (ts ∷ rows) = tableRow (need js ts) ts ++ tableBytes js rows
+
+-- The verdict on building `count` rows into `size` lent bytes: the profile's own, then 9, then 11 (Refusal numbers, order; The table: room).
+unfoldable pub buildVerdict : Profile → ℕ → ℕ → Verdict
+buildVerdict p count size = orElse (verdictOf p) (refuseIf (eqb count 0) NoPeriods (refuseIf (ltb (size / 16) count) (Room count) Sound))
+
+-- What `build_table` may answer, and leave of a lent buffer that held `old`; for a refused profile nothing is said of `rows`.
+-- There are no rows, and so 9 is answered, exactly where no list is permitted (Refusal numbers, 9).
+pub record Built (p : Profile) (old : List ℕ) (r : Counted) (new : List ℕ) : Type 0 where
+  pub rows : List (List Seconds)
+  pub are : verdictOf p ≡ Sound → TableOf (jobsOf p) rows
+  pub none : verdictOf p ≡ Sound → (length rows ≡ 0) ↔ ((ts : List Seconds) → Permitted (jobsOf p) ts → ⊥)
+  pub verdict : r .verdict ≡ buildVerdict p (length rows) (length old)
+  pub count : r .count ≡ ifSound (buildVerdict p (length rows) (length old)) (length rows) 0
+  pub bytes : new ≡ ifSound (buildVerdict p (length rows) (length old)) (tableBytes (jobsOf p) rows ++ drop (16 * length rows) old) old
