@@ -42,6 +42,12 @@ uint64_t charopleth_choose(uint32_t n, const uint32_t jobs[40], uint32_t budget,
  * are too few, with the number needed. */
 uint64_t charopleth_zones(uint32_t n, const uint32_t jobs[40], uint8_t *room, size_t length);
 
+/* The budget table of a profile, a row of sixteen bytes for each different best answer as the budget goes through all 32-bit
+ * numbers, at the front of `room`: start 32 bits, which is the answer's need and the least budget that gets it, then eight
+ * periods of 12 bits, 0 beyond n. By rising start. Returns the number of rows; bytes after them are untouched. Refuses 9 where
+ * no periods are permitted, and 11 where length / 16 rows are too few, with the number needed. */
+uint64_t charopleth_table(uint32_t n, const uint32_t jobs[40], uint8_t *room, size_t length);
+
 #ifdef __cplusplus
 }
 #endif

@@ -23,6 +23,11 @@ uint64_t reference_judge(uint32_t n, const uint32_t jobs[40])
     return 0;
 }
 
+struct plan {
+    uint64_t loss, need;
+    uint32_t periods[8];
+};
+
 /* One enumeration of all permitted lists, in the order of the lists; `visit` is called at each. */
 struct search {
     void (*visit)(struct search *);
@@ -36,6 +41,7 @@ struct search {
     uint64_t need, loss;
     uint32_t best[8];
     uint32_t (*lists)[8];
+    struct plan *plans;
     uint64_t listed, space;
 };
 
@@ -184,5 +190,71 @@ uint64_t reference_zones(uint32_t n, const uint32_t jobs[40], uint8_t *room, uin
         }
     }
     free(s.lists);
+    return result;
+}
+
+static void keep_plan(struct search *s)
+{
+    if (s->listed == s->space) {
+        s->space = 2 * s->space + 64;
+        s->plans = realloc(s->plans, s->space * sizeof *s->plans);
+    }
+    struct plan *plan = s->plans + s->listed++;
+    memset(plan, 0, sizeof *plan);
+    plan->loss = loss_of(s);
+    plan->need = need_of(s);
+    for (uint32_t i = 0; i < s->n; i++)
+        plan->periods[i] = s->periods[i];
+}
+
+/* Less loss first, then less need, then the list that is smaller at its first difference. */
+static int better(const void *a, const void *b)
+{
+    const struct plan *x = a, *y = b;
+    if (x->loss != y->loss)
+        return x->loss < y->loss ? -1 : 1;
+    if (x->need != y->need)
+        return x->need < y->need ? -1 : 1;
+    for (int i = 0; i < 8; i++)
+        if (x->periods[i] != y->periods[i])
+            return x->periods[i] < y->periods[i] ? -1 : 1;
+    return 0;
+}
+
+uint64_t reference_table(uint32_t n, const uint32_t jobs[40], uint8_t *room, uint64_t length, uint64_t most)
+{
+    uint64_t verdict = reference_judge(n, jobs);
+    if (verdict != 0)
+        return verdict;
+    struct search s = {.visit = keep_plan, .n = n, .jobs = jobs, .left = most};
+    enumerate(&s, 0, 1);
+    if (s.listed)
+        qsort(s.plans, s.listed, sizeof *s.plans, better);
+    /* From the greatest budget down: the best of all, then the best that needs less, and so on. */
+    uint64_t rows = 0, result;
+    for (uint64_t i = 0; i < s.listed; i++)
+        if (rows == 0 || s.plans[i].need < s.plans[rows - 1].need)
+            s.plans[rows++] = s.plans[i];
+    if (s.gave_up)
+        result = REFERENCE_LONG;
+    else if (rows == 0)
+        result = refusal(9, 0);
+    else if (length / 16 < rows)
+        result = refusal(11, rows);
+    else {
+        result = rows;
+        for (uint64_t i = 0; i < rows; i++) {
+            const struct plan *plan = s.plans + (rows - 1 - i);
+            uint8_t *row = room + 16 * i;
+            memset(row, 0, 16);
+            for (int k = 0; k < 4; k++)
+                row[k] = (uint8_t)(plan->need >> (24 - 8 * k));
+            for (int k = 0; k < 8; k++)
+                for (int bit = 0; bit < 12; bit++)
+                    if (plan->periods[k] >> (11 - bit) & 1)
+                        row[(32 + 12 * k + bit) / 8] |= (uint8_t)(0x80 >> (32 + 12 * k + bit) % 8);
+        }
+    }
+    free(s.plans);
     return result;
 }

@@ -11,6 +11,9 @@ uint64_t reference_choose(uint32_t n, const uint32_t jobs[40], uint32_t budget, 
 /* The zones by grouping the permitted lists; REFERENCE_LONG where more than `most` parts of lists would be visited. */
 uint64_t reference_zones(uint32_t n, const uint32_t jobs[40], uint8_t *room, uint64_t length, uint64_t most);
 
+/* The table from all plans, sorted; REFERENCE_LONG where more than `most` parts of lists would be visited. */
+uint64_t reference_table(uint32_t n, const uint32_t jobs[40], uint8_t *room, uint64_t length, uint64_t most);
+
 /* The verdict on the values alone, 0 or the refusal. */
 uint64_t reference_judge(uint32_t n, const uint32_t jobs[40]);
 

@@ -8,7 +8,8 @@ use Rattle.model.specs.Model.{pagesPerHour, ifSound}
 use Rattle.choose.specs.declared.Choice.{Choice}
 use Rattle.choose.proofs.OneOutcome.{choose-one-outcome}
 use Rattle.zones.proofs.OneOutcome.{list-zones-one-outcome}
-use Rattle.planner.specs.ForC.{resultOf, countedOf, profileIn, answerOf, ChoosesForC, ListsForC}
+use Rattle.table.proofs.OneOutcome.{build-table-one-outcome}
+use Rattle.planner.specs.ForC.{BuildsForC, resultOf, countedOf, profileIn, answerOf, ChoosesForC, ListsForC}
 
 pub charopleth-choose-one-outcome : (n : ℕ) (jobs : List ℕ) (budget : ℕ) (old : List ℕ) {r s : ℕ} {new other-new : List ℕ} → ChoosesForC n jobs budget old r new → ChoosesForC n jobs budget old s other-new → (r ≡ s) × (new ≡ other-new)
 charopleth-choose-one-outcome n jobs budget old one other =
@@ -20,4 +21,9 @@ charopleth-choose-one-outcome n jobs budget old one other =
 pub charopleth-zones-one-outcome : (n : ℕ) (jobs : List ℕ) (old : List ℕ) {r s : ℕ} {new other-new : List ℕ} → ListsForC n jobs old r new → ListsForC n jobs old s other-new → (r ≡ s) × (new ≡ other-new)
 charopleth-zones-one-outcome n jobs old one other =
     let same = list-zones-one-outcome (profileIn n jobs) old (one .listed) (other .listed) in
+    (one .result ∙ ap countedOf (same .0) ∙ sym (other .result), same .1)
+
+pub charopleth-table-one-outcome : (n : ℕ) (jobs : List ℕ) (old : List ℕ) {r s : ℕ} {new other-new : List ℕ} → BuildsForC n jobs old r new → BuildsForC n jobs old s other-new → (r ≡ s) × (new ≡ other-new)
+charopleth-table-one-outcome n jobs old one other =
+    let same = build-table-one-outcome (profileIn n jobs) old (one .built) (other .built) in
     (one .result ∙ ap countedOf (same .0) ∙ sym (other .result), same .1)

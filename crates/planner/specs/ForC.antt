@@ -15,6 +15,7 @@ use Rattle.model.specs.declared.Counted.{Counted}
 use Rattle.choose.specs.declared.Choice.{Choice}
 use Rattle.choose.specs.Choice.{Chosen}
 use Rattle.zones.specs.Zones.{Listed}
+use Rattle.table.specs.Table.{Built}
 
 -- A verdict as one number: the refusal's number above 48 bits of detail. A detail that they do not hold is told as their greatest.
 unfoldable pub resultOf : Verdict → ℕ
@@ -51,3 +52,9 @@ pub record ListsForC (n : ℕ) (jobs : List ℕ) (old : List ℕ) (r : ℕ) (new
   pub listing : Counted
   pub listed : Listed (profileIn n jobs) old listing new
   pub result : r ≡ countedOf listing
+
+-- What `charopleth_table` may answer, and leave of a room that held `old`: as the builder has it.
+pub record BuildsForC (n : ℕ) (jobs : List ℕ) (old : List ℕ) (r : ℕ) (new : List ℕ) : Type 0 where
+  pub building : Counted
+  pub built : Built (profileIn n jobs) old building new
+  pub result : r ≡ countedOf building

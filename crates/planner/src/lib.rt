@@ -11,7 +11,7 @@ use model::Verdict;
 ghost use mathlib.Core.Path.{_≡_};
 ghost use Prim.Native.Nat.{_<_};
 ghost use lib.Seq.{sets};
-ghost use Rattle.planner.specs.ForC.{resultOf, countedOf, jobIn, profileIn, answerOf, ChoosesForC, ListsForC};
+ghost use Rattle.planner.specs.ForC.{resultOf, countedOf, jobIn, profileIn, answerOf, ChoosesForC, ListsForC, BuildsForC};
 
 // The best periods for a budget.
 #[no_mangle]
@@ -39,6 +39,15 @@ pub extern "C" fn charopleth_zones(n: u32, jobs: &[u32; 40], room: &mut [u8]) ->
     ensures { λ r. ⌜ ListsForC n (now (jobs .entry)) (now (room .entry)) r (now (room .exit)) ⌝ }
 {
     let c = zones::list_zones(profile(n, jobs), room);
+    counted(c)
+}
+
+// The rows of the budget table to the front of a lent room; the count of rows.
+#[no_mangle]
+pub extern "C" fn charopleth_table(n: u32, jobs: &[u32; 40], room: &mut [u8]) -> u64
+    ensures { λ r. ⌜ BuildsForC n (now (jobs .entry)) (now (room .entry)) r (now (room .exit)) ⌝ }
+{
+    let c = table::build_table(profile(n, jobs), room);
     counted(c)
 }
 

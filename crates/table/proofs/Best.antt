@@ -1,8 +1,8 @@
 -- The best of all lists that fit a budget, where it fits a smaller one, is the best there too: fewer lists fit.
 -- Assumes nothing.
-use mathlib.Core.Path.{_≡_, sym, ap}
+use mathlib.Core.Path.{_≡_, ap}
 use mathlib.Core.List.{List, [], _∷_, List·Memᴰ}
-use Prim.Native.Nat.{ℕ, _+_, _*_, _/_, _^_, _≤_, _<_}
+use Prim.Native.Nat.{_*_, _/_, _^_, _≤_, _<_}
 use native.Mathlib.Omega.{arith}
 use native.Mathlib.Decide.{decLe, ℕ-discrete}
 use native.Mathlib.Nat.{le-trans, le-refl, mul-le-mul, div-le-self}
@@ -10,8 +10,8 @@ use lib.ListN.{length}
 use Rattle.model.specs.declared.Seconds.{Seconds}
 use Rattle.model.specs.declared.PagesPerHour.{PagesPerHour}
 use Rattle.model.specs.declared.Job.{Job}
-use Rattle.model.specs.Model.{seconds, cost, ValidJobs, PermittedAfter, Permitted, lastOf, pagesIn, need, FitsBudget, loss, Best}
-use Rattle.model.proofs.Bounds.{cost-bound, mostRate, need-bound}
+use Rattle.model.specs.Model.{seconds, cost, ValidJobs, Permitted, lastOf, pagesIn, need, FitsBudget, loss, Best}
+use Rattle.model.proofs.Bounds.{cost-bound, need-bound}
 use Rattle.choose.specs.Walk.{walk, start}
 use Rattle.choose.specs.Found.{Found, nothing, found, pick}
 use Rattle.choose.proofs.Fold.{BestOrNone, walk-best}

@@ -1,9 +1,9 @@
 -- From the greatest budget down: the choice at a budget is the last row of all budgets up to it, and the rows before it are those of the budgets below its need.
 -- Assumes nothing.
-use mathlib.Core.Path.{_≡_, refl, sym, _∙_, ap, subst}
+use mathlib.Core.Path.{_≡_, refl, sym, subst}
 use mathlib.Core.Logic.{_↔_, ⊎-elim}
-use mathlib.Core.List.{List, [], _∷_, _++_, List·Memᴰ, List·Memᴰ·head, List·Memᴰ·not-nil, Memᴰ·cast, Memᴰ·append-left, Memᴰ·append-right, List·Memᴰ·append-cases, List·Memᴰ·eq-of-singleton}
-use Prim.Native.Nat.{ℕ, zero, suc, _+_, _^_, _≤_, _<_}
+use mathlib.Core.List.{List, [], _∷_, _++_, List·Memᴰ, List·Memᴰ·head, List·Memᴰ·not-nil, Memᴰ·append-left, Memᴰ·append-right, List·Memᴰ·append-cases, List·Memᴰ·eq-of-singleton}
+use Prim.Native.Nat.{ℕ, zero, suc, _≤_, _<_}
 use native.Mathlib.Omega.{arith}
 use native.Mathlib.Decide.{decLt}
 use native.Mathlib.Nat.{le-refl}
@@ -14,7 +14,7 @@ use Rattle.model.specs.declared.Job.{Job}
 use Rattle.model.specs.Model.{pagesPerHour, ValidJobs, Permitted, need, FitsBudget, Best}
 use Rattle.choose.specs.Walk.{walk, start}
 use Rattle.choose.specs.Found.{Found, nothing, found, pick}
-use Rattle.choose.proofs.Fold.{BestFound, BestOrNone, walk-best}
+use Rattle.choose.proofs.Fold.{BestOrNone, walk-best}
 use Rattle.choose.proofs.OneOutcome.{one-best}
 use Rattle.table.specs.Table.{Rising, TableOf}
 use Rattle.table.specs.Descent.{upTo, descent, rowsBelow, allBudgets}

@@ -1,6 +1,6 @@
 -- What a table answers to a budget is what choosing answers: the last row that fits has the greatest need of all best lists that fit.
 -- Assumes nothing.
-use mathlib.Core.Path.{_≡_, refl, sym, _∙_, ap, subst}
+use mathlib.Core.Path.{_≡_, refl, sym, ap, subst}
 use mathlib.Core.Logic.{_⊎_, inl, inr, ⊎-elim}
 use mathlib.Core.List.{List, [], _∷_, List·Memᴰ, List·Memᴰ·head, List·Memᴰ·tail, List·Memᴰ·cases-cons, List·Memᴰ·eq-of-singleton}
 use Prim.Native.Nat.{ℕ, _^_, _≤_, _<_}
@@ -12,9 +12,16 @@ use borrow.Author.Tests.{lt-ltb, le-ltb, le-leb, lt-leb}
 use Rattle.model.specs.declared.Seconds.{Seconds}
 use Rattle.model.specs.declared.PagesPerHour.{PagesPerHour}
 use Rattle.model.specs.declared.Job.{Job}
-use Rattle.model.specs.Model.{ValidJobs, Permitted, need, FitsBudget, Best}
-use Rattle.choose.specs.Choice.{answered, LeastBudget, Outcome, given, none-permitted, none-fit}
-use Rattle.table.specs.Table.{Rising, TableOf}
+use Rattle.model.specs.declared.Profile.{Profile}
+use Rattle.model.specs.declared.Counted.{Counted}
+use Rattle.model.specs.declared.Verdict.the-variants.{Sound}
+use Rattle.model.specs.Model.{noJob, jobsOf, ValidJobs, Permitted, need, FitsBudget, Best, verdictOf}
+use Rattle.model.proofs.Entries.{length-entries}
+use Rattle.model.proofs.Validity.{sound-valid}
+use Rattle.choose.specs.declared.Choice.{Choice}
+use Rattle.choose.specs.Choice.{answered, LeastBudget, Outcome, given, none-permitted, none-fit, Chosen}
+use Rattle.choose.proofs.OneOutcome.{one-outcome}
+use Rattle.table.specs.Table.{Rising, TableOf, Built}
 use Rattle.table.specs.Descent.{lastRow, readTable}
 use Rattle.table.proofs.Best.{best-at-need, needs-follow, some-best}
 use Rattle.table.proofs.Descent.{no-rows}
@@ -70,3 +77,9 @@ pub table-answers : (js : List Job) → ValidJobs js → length js ≤ 8 → (ro
 unfolding readTable
 table-answers js v few [] t b h = none-permitted (no-rows js v few t .0 refl)
 table-answers js v few (ts ∷ rows) t b h = answers js v ts rows t b h (decLt (b .0) (need js ts .0))
+
+-- So the rows that building went by answer every budget as `choose` does.
+pub built-answers : (p : Profile) (old : List ℕ) {r : Counted} {new : List ℕ} (t : Built p old r new) → verdictOf p ≡ Sound → (b : PagesPerHour) → b .0 < 2 ^ 32 → {c : Choice} → Chosen p b c → c ≡ readTable (jobsOf p) (t .rows) b
+built-answers p old t e b h chosen =
+    let v = sound-valid p e in
+    one-outcome (chosen .sound e) (table-answers (jobsOf p) (v .jobs) (omega (arith, length-entries noJob (p .jobs) 0 (p .n))) (t .rows) (t .are e) b h)

@@ -4,27 +4,25 @@ use mathlib.Core.Path.{_≡_, refl, sym, _∙_, ap, ap₂, subst}
 use mathlib.Core.List.{List, [], _∷_, _++_, map, append-assoc, append-nil}
 use Prim.Native.Nat.{ℕ, zero, suc, _+_, _*_, _-_, _/_, _^_, _≤_, _<_}
 use native.Mathlib.Omega.{arith}
-use native.Mathlib.Decide.{decLt, decLe}
+use native.Mathlib.Decide.{decLt}
 use native.Mathlib.Nat.{le-refl, le-trans}
-use lib.ListN.{length, getD, take, drop, replicate, length-append, List·getD-append, take-append-drop}
-use lib.Seq.{take-at, take-take, take-append-le, drop-at, length-take-le, getD-append-add}
+use lib.ListN.{length, getD, take, drop, replicate, length-append, take-append-drop}
+use lib.Seq.{take-take, take-append-le, drop-at, length-take-le}
 use Rattle.model.specs.declared.Seconds.{Seconds}
 use Rattle.model.specs.declared.PagesPerHour.{PagesPerHour}
 use Rattle.model.specs.declared.Job.{Job}
-use Rattle.model.specs.declared.Verdict.{Verdict}
-use Rattle.model.specs.Model.{seconds, pagesPerHour, numberOf, entries, ValidJobs, PermittedAfter, need, Best}
+use Rattle.model.specs.Model.{seconds, pagesPerHour, entries, ValidJobs, PermittedAfter, need}
 use Rattle.model.proofs.Verdicts.{Refuses}
 use Rattle.codec.specs.Packing.{bits, pack, recut}
 use Rattle.codec.specs.Layout.{byteWidths}
 use Rattle.codec.specs.Rows.{rowBytes, withRow, tableWidths, tableRow}
-use Rattle.codec.proofs.Packing.{length-recut}
 use Rattle.codec.proofs.Rows.{row-of-words, row-in}
 use Rattle.choose.specs.declared.Choice.{Choice}
-use Rattle.choose.specs.Choice.{padded, answered, Outcome, given, none-permitted, none-fit}
+use Rattle.choose.specs.Choice.{padded, Outcome, given, none-permitted, none-fit}
 use Rattle.table.specs.Table.{tableBytes}
-use Rattle.table.specs.Descent.{rowsBelow, allBudgets, periodAt, RowNumbers, highWord, lowWord}
+use Rattle.table.specs.Descent.{rowsBelow, allBudgets, RowNumbers, highWord, lowWord}
 use Rattle.table.proofs.Descent.{rows-zero}
-use Rattle.table.proofs.Counting.{Plan, sound-plan, rows-chosen, rows-refused, need-falls}
+use Rattle.table.proofs.Counting.{Plan, rows-chosen, rows-refused, need-falls}
 
 -- the fields side by side are the two words
 words : (c : Choice) → pack tableWidths (c .need .0 ∷ map (λ t. t .0) (entries (seconds 0) (c .periods) 0 8)) ≡ highWord c * 2 ^ 64 + lowWord c

@@ -1,6 +1,5 @@
 -- The table as a list that can be computed, from the greatest budget down, how an answer is read from a table, and what the
 -- private functions ask and promise. No public contract cites this. Assumes nothing.
-use mathlib.Core.Path.{_≡_}
 use mathlib.Core.List.{List, [], _∷_, _++_}
 use mathlib.Core.Bool.{cond}
 use Prim.Native.Nat.{ℕ, zero, suc, _+_, _*_, _/_, _%_, _^_, _≤_, _<_}

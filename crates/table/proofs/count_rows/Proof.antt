@@ -1,13 +1,9 @@
 -- `table::count_rows` meets its contract: before each turn the rows counted and the rows below the limit are all rows.
 -- Assumes nothing.
-use mathlib.Core.Path.{_≡_, sym, _∙_}
 use native.Mathlib.Omega.{arith}
 use borrow.Author.Needs.{needs}
-use Rattle.model.specs.Model.{jobsOf, pagesPerHour}
-use Rattle.model.proofs.Validity.{valid-sound}
+use Rattle.model.specs.Model.{jobsOf}
 use Rattle.model.proofs.Verdicts.{refuses}
-use Rattle.choose.specs.Choice.{Outcome}
-use Prim.Native.Nat.{_-_}
 use Rattle.table.proofs.Counting.{Counting, none-counted, count-small, all-counted, last-counted, one-counted, less-left}
 use Rattle.table.proofs.count_rows.Statement.{statement}
 use Rattle.table.proofs.count_rows.Tie as tie

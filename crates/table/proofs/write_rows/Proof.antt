@@ -1,12 +1,8 @@
 -- `table::write_rows` meets its contract: before each turn the rows behind the next one stand, and the rows below the limit are to come.
 -- Assumes nothing.
-use mathlib.Core.Path.{_≡_, sym, _∙_}
-use Prim.Native.Nat.{_-_}
 use native.Mathlib.Omega.{arith}
 use borrow.Author.Needs.{needs}
-use Rattle.model.specs.Model.{jobsOf, pagesPerHour}
-use Rattle.model.proofs.Validity.{valid-sound}
-use Rattle.choose.specs.Choice.{Outcome}
+use Rattle.model.specs.Model.{jobsOf}
 use Rattle.table.specs.Descent.{RowNumbers}
 use Rattle.table.proofs.TableRows.{Writing, none-written, all-written, limit-left, numbers, one-written}
 use Rattle.table.proofs.write_rows.Statement.{statement}
@@ -27,6 +23,7 @@ sub-row c = omega arith
 choice-below-requires : tie.Need-choice-below-requires Inv-loop μ-loop
 choice-below-requires c κs = (c .before .before .before .pre .0, omega (arith, limit-left _ _ _ _ _ _ (c .before .loop .inv) (omega arith)), omega (arith, c .before .loop .inv .within))
 
+-- the numbers of a turn's choice fit their fields
 small : (k : tie.After-choice-below Inv-loop μ-loop) → RowNumbers (k .choice-below .result)
 small k = numbers _ _ _ _ _ _ (k .before .before .loop .inv) (let more = k .before .loop-test .taken in omega arith) (k .before .before .before .before .pre .0 .jobs) (k .choice-below .ensures)
 
