@@ -1,0 +1,70 @@
+-- `lookup::last_within` meets its contract: before each turn the answer is that among the first k rows.
+-- Assumes nothing.
+use Prim.Native.Nat.{_≤_}
+use mathlib.Core.Path.{_≡_, _∙_, ap, sym}
+use native.Mathlib.Omega.{arith}
+use borrow.Author.Needs.{needs}
+use Rattle.lookup.specs.declared.TableRow.{TableRow}
+use Rattle.lookup.specs.Table.{rowsIn}
+use Rattle.lookup.specs.Lookup.{lastWithin}
+use Rattle.lookup.proofs.Finding.{last-found, last-before, last-none}
+use Rattle.lookup.proofs.last_within.Statement.{statement}
+use Rattle.lookup.proofs.last_within.Tie as tie
+
+abbrev Inv-loop : tie.InvT-loop
+Inv-loop table budget k₀ k = (k ≤ rowsIn table) × (lastWithin table budget (rowsIn table) ≡ lastWithin table budget k)
+
+abbrev μ-loop : tie.MeasureT-loop
+μ-loop table budget k₀ k = k
+
+loop-holds : tie.Need-loop-holds Inv-loop μ-loop
+loop-holds c = search needs
+
+sub-row-at : tie.Need-sub-row-at Inv-loop μ-loop
+sub-row-at c = search needs
+
+row-at-requires : tie.Need-row-at-requires Inv-loop μ-loop
+row-at-requires c κs = search needs
+
+sub-result : tie.Need-sub-result Inv-loop μ-loop
+sub-result c = search needs
+
+returns : tie.Need-returns Inv-loop μ-loop
+returns c =
+    let r = c .before .before .before in
+    let l = r .before .before .loop in
+    sym (l .inv .1 ∙ last-found _ _ (l .k) (r .before .loop-test .taken) (omega (arith, ap (λ (x : TableRow). x .start .0) (r .row-at .ensures))))
+
+sub-k : tie.Need-sub-k Inv-loop μ-loop
+sub-k c = search needs
+
+loop-less : tie.Need-loop-less Inv-loop μ-loop
+loop-less c = search needs
+
+loop-again : tie.Need-loop-again Inv-loop μ-loop
+loop-again c =
+    let r = c .before .before .before in
+    let l = r .before .before .loop in
+    (omega arith, l .inv .1 ∙ last-before _ _ (l .k) (r .before .loop-test .taken) (omega (arith, ap (λ (x : TableRow). x .start .0) (r .row-at .ensures))))
+
+returns-2 : tie.Need-returns-2 Inv-loop μ-loop
+returns-2 c =
+    let l = c .before .loop in
+    let none : l .k ≡ 0 = omega arith in
+    sym (l .inv .1 ∙ ap (lastWithin _ _) none ∙ last-none _ _)
+
+pub last-within-spec : {M : Type 1} → statement M
+last-within-spec =
+    tie.close
+    (tie.spec
+    Inv-loop
+    μ-loop
+    loop-holds
+    sub-row-at
+    row-at-requires
+    sub-result
+    returns
+    sub-k
+    loop-less
+    loop-again
+    returns-2)

@@ -1,0 +1,15 @@
+-- A table row as the code holds it. Cited by the contracts of private functions only. Assumes nothing.
+use mathlib.Core.List.{List, map}
+use Prim.Native.Nat.{ℕ}
+use lib.ListN.{getD, drop}
+use Rattle.model.specs.Model.{seconds, pagesPerHour}
+use Rattle.lookup.specs.declared.TableRow.{TableRow}
+use Rattle.lookup.specs.Table.{rowFields}
+
+-- The start and the periods among a row's fields.
+abbrev pub rowOf : List ℕ → TableRow
+rowOf fields = record { start = pagesPerHour (getD fields 0 0); periods = map seconds (drop 1 fields) }
+
+-- The row numbered k, from 0.
+abbrev pub rowAt : List ℕ → ℕ → TableRow
+rowAt bytes k = rowOf (rowFields bytes k)

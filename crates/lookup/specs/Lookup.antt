@@ -1,0 +1,75 @@
+-- What looking a budget up answers (document 01, The table and Refusal numbers): the checks as tests, in their order, and the row found.
+-- That they say what Table does is proved in proofs/Formed and proofs/Finding. Cited by public contracts. Assumes nothing.
+use mathlib.Core.Path.{_≡_}
+use mathlib.Core.List.{List, []}
+use mathlib.Core.Bool.{Bool, true, not, cond, _&&_, _||_}
+use Prim.Native.Nat.{ℕ, zero, suc, _+_, _*_, _-_, _%_}
+use lib.ListN.{length, getD, take, drop}
+use lib.Dec.{eqb, ltb, leb}
+use Rattle.model.specs.declared.Seconds.{Seconds}
+use Rattle.model.specs.declared.PagesPerHour.{PagesPerHour}
+use Rattle.model.specs.declared.Job.{Job}
+use Rattle.model.specs.declared.Profile.{Profile}
+use Rattle.model.specs.declared.Verdict.{Verdict}
+use Rattle.model.specs.declared.Verdict.the-variants.{Sound, Budget, Row}
+use Rattle.model.specs.Model.{seconds, noJob, refuseIf, orElse, ifSound, verdictOf}
+use Rattle.lookup.specs.Table.{rowsIn, startAt, periodsAt, needAt, lossAt}
+
+-- Whether a job allows a period after the period `before`: in its interval, and a whole multiple (Quantities).
+unfoldable pub allows : Job → Seconds → Seconds → Bool
+allows j before t = not (ltb (t .0) (j .lo .0)) && (not (ltb (j .hi .0) (t .0)) && eqb (t .0 % before .0) 0)
+
+-- Whether the period at place i of a row is right: its job allows it, or it is 0 beyond n (The table).
+unfoldable pub placeRight : Profile → ℕ → Seconds → Seconds → Bool
+placeRight p i before t = cond (ltb i (p .n)) (allows (getD (p .jobs) i noJob) before t) (eqb (t .0) 0)
+
+-- The same of m places from place i on.
+unfoldable pub placesRight : Profile → List Seconds → ℕ → Seconds → ℕ → Bool
+placesRight p ts i before zero = true
+placesRight p ts i before (suc m) = placeRight p i before (getD ts i (seconds 0)) && placesRight p ts (i + 1) (getD ts i (seconds 0)) m
+
+-- Whether row k, of this start and loss, may follow one of that start and loss; the first follows none (The table).
+unfoldable pub follows : ℕ → PagesPerHour → ℕ → PagesPerHour → ℕ → Bool
+follows k startBefore lossBefore start loss = eqb k 0 || (ltb (startBefore .0) (start .0) && ltb loss lossBefore)
+
+-- Whether row k is good by itself and after the one before it (The table).
+unfoldable pub rowRight : Profile → List ℕ → ℕ → Bool
+rowRight p bytes k =
+    placesRight p (periodsAt bytes k) 0 (seconds 1) 8
+    && (eqb (needAt p bytes k .0) (startAt bytes k .0)
+    && follows k (startAt bytes (k - 1)) (lossAt p bytes (k - 1)) (startAt bytes k) (lossAt p bytes k))
+
+-- The first bad row of the m rows from row k on, counted from 1; 0 where there is none (Refusal numbers, 12).
+unfoldable pub firstBad : Profile → List ℕ → ℕ → ℕ → ℕ
+firstBad p bytes k zero = 0
+firstBad p bytes k (suc m) = cond (rowRight p bytes k) (firstBad p bytes (k + 1) m) (k + 1)
+
+-- 12 for the length, 12 for the first bad row, then 10 with the first row's start (Refusal numbers, order).
+unfoldable pub tableVerdict : Profile → List ℕ → PagesPerHour → Verdict
+tableVerdict p bytes b =
+    refuseIf (eqb (length bytes) 0) (Row 0)
+    (refuseIf (not (eqb (length bytes % 16) 0)) (Row 0)
+    (refuseIf (ltb 0 (firstBad p bytes 0 (rowsIn bytes))) (Row (firstBad p bytes 0 (rowsIn bytes)))
+    (refuseIf (ltb (b .0) (startAt bytes 0 .0)) (Budget (startAt bytes 0)) Sound)))
+
+-- The profile's own verdict, then the table's (Refusal numbers, order).
+unfoldable pub lookupVerdict : Profile → List ℕ → PagesPerHour → Verdict
+lookupVerdict p bytes b = orElse (verdictOf p) (tableVerdict p bytes b)
+
+-- The last of the first m rows whose start is at most the budget (The table); row 0 where there is none.
+unfoldable pub lastWithin : List ℕ → PagesPerHour → ℕ → ℕ
+lastWithin bytes b zero = 0
+lastWithin bytes b (suc m) = cond (leb (startAt bytes m .0) (b .0)) m (lastWithin bytes b m)
+
+-- Where the answer begins: at the row that answers, or at the table's own start beside a refusal.
+unfoldable pub answerPlace : Profile → List ℕ → PagesPerHour → ℕ
+answerPlace p bytes b = ifSound (lookupVerdict p bytes b) (16 * lastWithin bytes b (rowsIn bytes)) 0
+
+-- What `lookup` may hand back of a lent table (The table): these bytes, and where they lie, as a block and a place in it.
+pub record LooksUp (p : Profile) (bytes : List ℕ) (lies : ℕ × ℕ) (b : PagesPerHour) (part : List ℕ) (at : ℕ × ℕ) : Type 0 where
+  pub holds : part ≡ ifSound (lookupVerdict p bytes b) (take 16 (drop (16 * lastWithin bytes b (rowsIn bytes)) bytes)) []
+  pub place : at ≡ (lies .0, lies .1 + answerPlace p bytes b)
+
+-- What `judge_lookup` may answer.
+abbrev pub Tells : Profile → List ℕ → PagesPerHour → Verdict → Type 0
+Tells p bytes b v = v ≡ lookupVerdict p bytes b
