@@ -1,5 +1,6 @@
 -- A table's bytes and when they are well formed (document 01, The table). Rows are counted from 0 here; a refusal names them from 1.
--- Cited by public contracts, through Lookup. Assumes nothing.
+-- Rows and their fields are cited by public contracts, through Lookup; WellFormed and Answers are what proofs/Formed.antt and
+-- Finding.antt show these to mean. Assumes nothing.
 use mathlib.Core.Path.{_≡_}
 use mathlib.Core.List.{List, map}
 use Prim.Native.Nat.{ℕ, _+_, _*_, _/_, _%_, _≤_, _<_}

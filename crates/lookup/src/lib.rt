@@ -12,7 +12,7 @@ ghost use denote.Ref.{ptr};
 ghost use Rattle.codec.specs.Packing.{unpack};
 ghost use Rattle.codec.specs.Rows.{tableWidths};
 ghost use Rattle.model.specs.Model.{Valid};
-ghost use Rattle.lookup.specs.Table.{rowsIn, startAt};
+ghost use Rattle.lookup.specs.Table.{rowsIn};
 ghost use Rattle.lookup.specs.Lookup.{placeRight, follows, firstBad, lastWithin, LooksUp, Tells};
 ghost use Rattle.lookup.specs.Cut.{rowOf, rowAt};
 
