@@ -77,6 +77,7 @@ rowsOf [] = []
 rowsOf (z ∷ zs) = recut zoneWidths (byteWidths 16) (zoneFields z) ++ rowsOf zs
 
 -- The verdict on listing `count` zones into `size` lent bytes: the profile's own, then 9, then 11 (Refusal numbers, order).
+-- No zones means that nothing is permitted: none-permitted in proofs/Permitted.antt.
 unfoldable pub listVerdict : Profile → ℕ → ℕ → Verdict
 listVerdict p count size = orElse (verdictOf p) (refuseIf (eqb count 0) NoPeriods (refuseIf (ltb (size / 16) count) (Room count) Sound))
 
