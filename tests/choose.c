@@ -1,22 +1,12 @@
 /* Compares charopleth_choose with the reference: choose COUNT SEED. Ends with status 1 at the first difference.
  * All of it runs on a stack of 64 KB with a page behind it that cannot be touched. */
-#include <inttypes.h>
 #include <pthread.h>
-#include <stdio.h>
-#include <stdlib.h>
 
 #include "charopleth.h"
-#include "random.h"
 #include "reference.h"
+#include "report.h"
 
 static const uint64_t guard = 0x5aa5c33c96691ee1u;
-
-static void show(uint32_t n, const uint32_t jobs[40], uint32_t budget)
-{
-    printf("n %" PRIu32 " budget %" PRIu32 "\n", n, budget);
-    for (int i = 0; i < 8; i++)
-        printf("%" PRIu32 " %" PRIu32 " %" PRIu32 " %" PRIu32 " %" PRIu32 "\n", jobs[5 * i], jobs[5 * i + 1], jobs[5 * i + 2], jobs[5 * i + 3], jobs[5 * i + 4]);
-}
 
 /* Twelve numbers: the answer between two guards. All of them must stand as the reference leaves them. */
 static int same(uint32_t n, const uint32_t jobs[40], uint32_t budget, uint64_t *result)
@@ -30,7 +20,8 @@ static int same(uint32_t n, const uint32_t jobs[40], uint32_t budget, uint64_t *
     uint64_t answered = charopleth_choose(n, jobs, budget, have + 1);
     if (answered == *result && memcmp(have, want, sizeof have) == 0)
         return 1;
-    show(n, jobs, budget);
+    printf("n %" PRIu32 " budget %" PRIu32 "\n", n, budget);
+    show_jobs(jobs);
     printf("answered %016" PRIx64 ", where the reference has %016" PRIx64 "\n", answered, *result);
     for (int i = 0; i < 12; i++)
         printf("%" PRIu64 " %" PRIu64 "\n", have[i], want[i]);
@@ -87,19 +78,13 @@ static void *compare(void *given)
         }
     }
     printf("choose: %" PRIu64 " answers equal, in a stack of 64 KB (%" PRIu64 " plans", done, told[0]);
-    for (int i = 1; i < 16; i++)
-        if (told[i])
-            printf(", %" PRIu64 " times %d", told[i], i);
-    printf(")\n");
+    show_refusals(told);
     return 0;
 }
 
 int main(int argc, char **argv)
 {
-    struct task task = {argc > 1 ? strtoull(argv[1], 0, 10) : 5000, 0};
-    random_state = argc > 2 ? strtoull(argv[2], 0, 10) : 20261115;
-    if (random_state == 0)
-        random_state = 1;
+    struct task task = {take_arguments(argc, argv), 0};
     pthread_t thread;
     pthread_attr_t small;
     if (pthread_attr_init(&small) || pthread_attr_setstacksize(&small, 65536) || pthread_attr_setguardsize(&small, 4096) || pthread_create(&thread, &small, compare, &task) || pthread_join(thread, 0)) {

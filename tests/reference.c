@@ -123,13 +123,19 @@ uint64_t reference_choose(uint32_t n, const uint32_t jobs[40], uint32_t budget, 
     return 0;
 }
 
+/* What is kept, with space for one more of this size. */
+static void *spacious(struct search *s, void *kept, size_t size)
+{
+    if (s->listed < s->space)
+        return kept;
+    s->space = 2 * s->space + 64;
+    return realloc(kept, s->space * size);
+}
+
 /* A list as its multipliers, and the first period behind them. */
 static void gather(struct search *s)
 {
-    if (s->listed == s->space) {
-        s->space = 2 * s->space + 64;
-        s->lists = realloc(s->lists, s->space * sizeof *s->lists);
-    }
+    s->lists = spacious(s, s->lists, sizeof *s->lists);
     uint32_t *list = s->lists[s->listed++];
     memset(list, 0, sizeof *s->lists);
     for (uint32_t i = 1; i < s->n; i++)
@@ -146,14 +152,23 @@ static int in_order(const void *a, const void *b)
     return 0;
 }
 
-/* Twelve bits at a place that is counted in twelve bits, most significant first. */
-static void put_field(uint8_t row[16], int place, uint32_t value)
+/* A field of some bits, most significant first, from bit `at` of a row of zeros on; the bit after it. */
+static int put_field(uint8_t row[16], int at, int width, uint64_t value)
 {
-    for (int bit = 0; bit < 12; bit++) {
-        int at = 12 * place + bit;
-        if (value >> (11 - bit) & 1)
+    for (int end = at + width; at < end; at++)
+        if (value >> (end - 1 - at) & 1)
             row[at / 8] |= (uint8_t)(0x80 >> at % 8);
-    }
+    return at;
+}
+
+/* What is answered where so many rows are to be written, and nothing is wrong with the profile. */
+static uint64_t answer_rows(const struct search *s, uint64_t rows, uint64_t length)
+{
+    if (s->gave_up)
+        return REFERENCE_LONG;
+    if (rows == 0)
+        return refusal(9, 0);
+    return length / 16 < rows ? refusal(11, rows) : rows;
 }
 
 uint64_t reference_zones(uint32_t n, const uint32_t jobs[40], uint8_t *room, uint64_t length, uint64_t most)
@@ -163,29 +178,22 @@ uint64_t reference_zones(uint32_t n, const uint32_t jobs[40], uint8_t *room, uin
         return verdict;
     struct search s = {.visit = gather, .n = n, .jobs = jobs, .left = most};
     enumerate(&s, 0, 1);
-    uint64_t rows = 0, result;
+    uint64_t rows = 0;
     if (s.listed)
         qsort(s.lists, s.listed, sizeof *s.lists, in_order);
     for (uint64_t i = 0; i < s.listed; i++)
         rows += i == 0 || memcmp(s.lists[i], s.lists[i - 1], 7 * sizeof(uint32_t)) != 0;
-    if (s.gave_up)
-        result = REFERENCE_LONG;
-    else if (rows == 0)
-        result = refusal(9, 0);
-    else if (length / 16 < rows)
-        result = refusal(11, rows);
-    else {
-        result = rows;
+    uint64_t result = answer_rows(&s, rows, length);
+    if (result == rows) {
         uint8_t *row = room;
         for (uint64_t i = 0; i < s.listed; row += 16) {
             uint64_t last = i;
             while (last + 1 < s.listed && memcmp(s.lists[last + 1], s.lists[i], 7 * sizeof(uint32_t)) == 0)
                 last++;
             memset(row, 0, 16);
-            put_field(row, 0, s.lists[i][7]);
-            put_field(row, 1, s.lists[last][7]);
+            int at = put_field(row, put_field(row, 0, 12, s.lists[i][7]), 12, s.lists[last][7]);
             for (int k = 0; k < 7; k++)
-                put_field(row, 2 + k, s.lists[i][k]);
+                at = put_field(row, at, 12, s.lists[i][k]);
             i = last + 1;
         }
     }
@@ -195,10 +203,7 @@ uint64_t reference_zones(uint32_t n, const uint32_t jobs[40], uint8_t *room, uin
 
 static void keep_plan(struct search *s)
 {
-    if (s->listed == s->space) {
-        s->space = 2 * s->space + 64;
-        s->plans = realloc(s->plans, s->space * sizeof *s->plans);
-    }
+    s->plans = spacious(s, s->plans, sizeof *s->plans);
     struct plan *plan = s->plans + s->listed++;
     memset(plan, 0, sizeof *plan);
     plan->loss = loss_of(s);
@@ -231,30 +236,20 @@ uint64_t reference_table(uint32_t n, const uint32_t jobs[40], uint8_t *room, uin
     if (s.listed)
         qsort(s.plans, s.listed, sizeof *s.plans, better);
     /* From the greatest budget down: the best of all, then the best that needs less, and so on. */
-    uint64_t rows = 0, result;
+    uint64_t rows = 0;
     for (uint64_t i = 0; i < s.listed; i++)
         if (rows == 0 || s.plans[i].need < s.plans[rows - 1].need)
             s.plans[rows++] = s.plans[i];
-    if (s.gave_up)
-        result = REFERENCE_LONG;
-    else if (rows == 0)
-        result = refusal(9, 0);
-    else if (length / 16 < rows)
-        result = refusal(11, rows);
-    else {
-        result = rows;
+    uint64_t result = answer_rows(&s, rows, length);
+    if (result == rows)
         for (uint64_t i = 0; i < rows; i++) {
             const struct plan *plan = s.plans + (rows - 1 - i);
             uint8_t *row = room + 16 * i;
             memset(row, 0, 16);
-            for (int k = 0; k < 4; k++)
-                row[k] = (uint8_t)(plan->need >> (24 - 8 * k));
+            int at = put_field(row, 0, 32, plan->need);
             for (int k = 0; k < 8; k++)
-                for (int bit = 0; bit < 12; bit++)
-                    if (plan->periods[k] >> (11 - bit) & 1)
-                        row[(32 + 12 * k + bit) / 8] |= (uint8_t)(0x80 >> (32 + 12 * k + bit) % 8);
+                at = put_field(row, at, 12, plan->periods[k]);
         }
-    }
     free(s.plans);
     return result;
 }

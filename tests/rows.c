@@ -1,12 +1,8 @@
 /* Compares charopleth_zones and charopleth_table with the reference: rows COUNT SEED. Ends with status 1 at the first
  * difference. The rooms are around the size that is needed, with bytes on both sides that must stand. */
-#include <inttypes.h>
-#include <stdio.h>
-#include <stdlib.h>
-
 #include "charopleth.h"
-#include "random.h"
 #include "reference.h"
+#include "report.h"
 
 enum { GUARD = 32, MOST = 1 << 20 };
 
@@ -31,8 +27,7 @@ static int same(const struct operation *o, uint32_t n, const uint32_t jobs[40], 
     if (answered == *result && memcmp(have, want, length + 2 * GUARD) == 0)
         return 1;
     printf("%s: n %" PRIu32 " room %" PRIu64 ": answered %016" PRIx64 ", where the reference has %016" PRIx64 "\n", o->name, n, length, answered, *result);
-    for (int i = 0; i < 8; i++)
-        printf("%" PRIu32 " %" PRIu32 " %" PRIu32 " %" PRIu32 " %" PRIu32 "\n", jobs[5 * i], jobs[5 * i + 1], jobs[5 * i + 2], jobs[5 * i + 3], jobs[5 * i + 4]);
+    show_jobs(jobs);
     return 0;
 }
 
@@ -60,19 +55,13 @@ static int compare(const struct operation *o, uint64_t count)
         done++;
     }
     printf("%s: %" PRIu64 " profiles equal in three rooms each (%" PRIu64 " rows", o->name, done, rows);
-    for (int i = 1; i < 16; i++)
-        if (told[i])
-            printf(", %" PRIu64 " times %d", told[i], i);
-    printf(")\n");
+    show_refusals(told);
     return 0;
 }
 
 int main(int argc, char **argv)
 {
     static const struct operation operations[] = {{"zones", charopleth_zones, reference_zones}, {"table", charopleth_table, reference_table}};
-    uint64_t count = argc > 1 ? strtoull(argv[1], 0, 10) : 5000;
-    random_state = argc > 2 ? strtoull(argv[2], 0, 10) : 20261115;
-    if (random_state == 0)
-        random_state = 1;
+    uint64_t count = take_arguments(argc, argv);
     return compare(operations, count) || compare(operations + 1, count);
 }

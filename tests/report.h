@@ -1,0 +1,35 @@
+/* What the comparing programs share: the seed they are given, and what they print. */
+#ifndef REPORT_H
+#define REPORT_H
+
+#include <inttypes.h>
+#include <stdio.h>
+#include <stdlib.h>
+
+#include "random.h"
+
+/* COUNT and SEED, the two arguments; the count is answered. */
+static uint64_t take_arguments(int argc, char **argv)
+{
+    random_state = argc > 2 ? strtoull(argv[2], 0, 10) : 20261115;
+    if (random_state == 0)
+        random_state = 1;
+    return argc > 1 ? strtoull(argv[1], 0, 10) : 5000;
+}
+
+static void show_jobs(const uint32_t jobs[40])
+{
+    for (int i = 0; i < 8; i++)
+        printf("%" PRIu32 " %" PRIu32 " %" PRIu32 " %" PRIu32 " %" PRIu32 "\n", jobs[5 * i], jobs[5 * i + 1], jobs[5 * i + 2], jobs[5 * i + 3], jobs[5 * i + 4]);
+}
+
+/* Ends a line that counts answers: how often each refusal was told. */
+static void show_refusals(const uint64_t told[16])
+{
+    for (int i = 1; i < 16; i++)
+        if (told[i])
+            printf(", %" PRIu64 " times %d", told[i], i);
+    printf(")\n");
+}
+
+#endif
