@@ -5,9 +5,6 @@ use native.Mathlib.Omega.{arith}
 use borrow.Author.Needs.{needs}
 use Rattle.numbers.proofs.show_periods.Statement.{statement}
 use Rattle.numbers.proofs.show_periods.Tie as tie
-use Rattle.numbers.proofs.show_periods.Reads as reads
-use Rattle.numbers.proofs.show_periods.Lts as lts
-use Rattle.numbers.proofs.show_period.Reads as show-period-reads
 
 abbrev Inv-loop : tie.InvT-loop
 Inv-loop ts k₀ k = k ≤ 8
