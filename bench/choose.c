@@ -6,6 +6,7 @@
 #include <string.h>
 
 #include "charopleth.h"
+#include "heavy.h"
 #include "reference.h"
 #include "timing.h"
 #include "walk.h"
@@ -66,16 +67,6 @@ static void measure(const char *name, const uint32_t jobs[40], uint32_t budget, 
     fflush(stdout);
 }
 
-/* Eight jobs with pages from 26,000 to 60,000 and unlike stiffnesses. */
-static void fill(uint32_t jobs[40], uint32_t lo, uint32_t hi)
-{
-    static const uint32_t pages[8] = {26000, 31000, 36000, 41000, 46000, 51000, 56000, 60000}, stiffness[8] = {5, 14, 11, 6, 1, 22, 32, 9};
-    for (int i = 0; i < 8; i++) {
-        uint32_t job[5] = {lo, hi, pages[i] / 2, pages[i] - pages[i] / 2, stiffness[i]};
-        memcpy(jobs + 5 * i, job, sizeof job);
-    }
-}
-
 static void fix_last(uint32_t jobs[40], uint32_t t) { jobs[35] = jobs[36] = t; }
 
 static uint32_t greatest_need(const uint32_t jobs[40])
@@ -89,18 +80,18 @@ int main(void)
 {
     static const uint32_t parts[4] = {2, 10, 100, 1000};
     uint32_t jobs[40];
-    fill(jobs, 1, 3600);
+    heavy_jobs(jobs, 1, 3600);
     for (int i = 0; i < 4; i++)
         measure("8 jobs [1,3600]", jobs, greatest_need(jobs) / parts[i], 1);
     for (int i = 0; i < 6; i++)
         jobs[5 * i + 2] = jobs[5 * i + 3] = 0;
     for (int i = 0; i < 4; i++)
         measure("six of them without pages", jobs, greatest_need(jobs) / parts[i], 0);
-    fill(jobs, 1, 3600);
+    heavy_jobs(jobs, 1, 3600);
     fix_last(jobs, 3600);
     for (int i = 0; i < 4; i++)
         measure("archive: last [3600,3600]", jobs, greatest_need(jobs) / parts[i], 0);
-    fill(jobs, 2, 1000);
+    heavy_jobs(jobs, 2, 1000);
     fix_last(jobs, 3593);
     measure("last [3593,3593], met by none", jobs, 1000000, 0);
     printf(failed ? "bench: a bound is broken\n" : "bench: within %.1f x the walk in C and 1/%.0f of enumeration\n", most_of_walk, least_of_enumeration);

@@ -102,3 +102,46 @@ uint64_t walk_choose(uint32_t n, const uint32_t jobs[40], uint32_t budget, uint6
         answer[2 + k] = k < n ? w.best[k] : 0;
     return 0;
 }
+
+/* A field of some bits, most significant first, after the `used` bits of a row of two words; the bits then used. */
+static uint32_t put(uint64_t row[2], uint32_t used, uint32_t width, uint64_t value)
+{
+    uint32_t left = 128 - used - width;
+    if (left >= 64) {
+        row[0] |= value << (left - 64);
+    } else {
+        row[1] |= value << left;
+        if (left + width > 64)
+            row[0] |= value >> (64 - left);
+    }
+    return used + width;
+}
+
+static void put_row(uint8_t *room, const uint64_t answer[10])
+{
+    uint64_t row[2] = {0, 0};
+    uint32_t used = put(row, 0, 32, answer[0]);
+    for (int k = 0; k < 8; k++)
+        used = put(row, used, 12, answer[2 + k]);
+    for (int k = 0; k < 16; k++)
+        room[k] = (uint8_t)(row[k / 8] >> (56 - 8 * (k % 8)));
+}
+
+uint64_t walk_table(uint32_t n, const uint32_t jobs[40], uint8_t *room, size_t length)
+{
+    uint64_t verdict = reference_judge(n, jobs), answer[10], rows = 0;
+    if (verdict != 0)
+        return verdict;
+    for (uint64_t limit = (uint64_t)1 << 32; limit > 0 && walk_choose(n, jobs, (uint32_t)(limit - 1), answer) == 0; rows++)
+        limit = answer[0];
+    if (rows == 0)
+        return (uint64_t)9 << 48;
+    if (length / 16 < rows)
+        return (uint64_t)11 << 48 | rows;
+    uint64_t limit = (uint64_t)1 << 32;
+    for (uint64_t row = rows; row-- > 0; limit = answer[0]) {
+        walk_choose(n, jobs, (uint32_t)(limit - 1), answer);
+        put_row(room + 16 * row, answer);
+    }
+    return rows;
+}
