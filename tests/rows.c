@@ -1,10 +1,11 @@
 /* Compares charopleth_zones and charopleth_table with the reference: rows COUNT SEED. Ends with status 1 at the first
- * difference. The rooms are around the size that is needed, with bytes on both sides that must stand. */
+ * difference. The rooms are around the size that is needed, with bytes on both sides that must stand; for some profiles they
+ * are all rooms from no row to one row more than needed. */
 #include "charopleth.h"
 #include "reference.h"
 #include "report.h"
 
-enum { GUARD = 32, MOST = 1 << 20 };
+enum { GUARD = 32, MOST = 1 << 20, SWEPT = 300, SWEPT_ROWS = 200 };
 
 static uint8_t have[MOST], want[MOST];
 
@@ -31,9 +32,19 @@ static int same(const struct operation *o, uint32_t n, const uint32_t jobs[40], 
     return 0;
 }
 
+/* In all rooms from no row to one row more than needed. */
+static int sweep(const struct operation *o, uint32_t n, const uint32_t jobs[40], uint64_t needed)
+{
+    uint64_t result;
+    for (uint64_t rows = 0; rows <= needed + 1; rows++)
+        if (!same(o, n, jobs, 16 * rows + below(16), &result))
+            return 0;
+    return 1;
+}
+
 static int compare(const struct operation *o, uint64_t count)
 {
-    uint64_t done = 0, rows = 0, told[16] = {0};
+    uint64_t done = 0, rows = 0, swept = 0, rooms = 0, told[16] = {0};
     while (done < count) {
         uint32_t jobs[40];
         uint32_t n = draw_profile(jobs);
@@ -49,12 +60,17 @@ static int compare(const struct operation *o, uint64_t count)
             continue;
         told[CHAROPLETH_REFUSAL(result)]++;
         equal = equal && same(o, n, jobs, 16 * needed - 1, &result) && same(o, n, jobs, 16 * needed + below(40), &result);
+        if (equal && swept < SWEPT && !CHAROPLETH_REFUSAL(result) && needed <= SWEPT_ROWS) {
+            equal = sweep(o, n, jobs, needed);
+            swept++;
+            rooms += needed + 2;
+        }
         if (!equal)
             return 1;
         rows += CHAROPLETH_REFUSAL(result) ? 0 : result;
         done++;
     }
-    printf("%s: %" PRIu64 " profiles equal in three rooms each (%" PRIu64 " rows", o->name, done, rows);
+    printf("%s: %" PRIu64 " profiles equal in three rooms each, %" PRIu64 " of them in every room, %" PRIu64 " rooms (%" PRIu64 " rows", o->name, done, swept, rooms, rows);
     show_refusals(told);
     return 0;
 }
