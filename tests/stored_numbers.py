@@ -110,6 +110,18 @@ def zone_rows(jobs):
     return rows
 
 
+def table_rows(jobs):
+    """The rows of the table: each different answer, from the greatest budget down."""
+    rows, budget = b"", 2 ** 32 - 1
+    while budget >= 0:
+        verdict, (need, _), ts = chosen(jobs, budget)
+        if verdict:
+            break
+        rows = (need << 96 | int("".join(f"{t:012b}" for t in (*ts, *(0,) * (8 - len(ts)))), 2)).to_bytes(16, "big") + rows
+        budget = need - 1
+    return rows
+
+
 def told(verdict):
     return "refused {} {}".format(*verdict) if verdict else "sound"
 
@@ -179,6 +191,24 @@ def expected():
         rows = zone_rows(jobs)
         yield from (told(None if rows else (9, 0)), str(len(rows) // 16), rows.hex() + "ee" * (81 - len(rows)))
     yield from (told((11, len(zone_rows(A)) // 16)), "ee" * 15)
+
+    yield "tables"
+    table = table_rows(A)
+    assert table[:16].hex(" ") == "00 00 10 e0 01 90 32 06 40 00 00 00 00 00 00 00"
+
+    def built(jobs):
+        rows = table_rows(jobs)
+        return told(None if rows else (9, 0)), str(len(rows) // 16), rows.hex() + "ee" * (145 - len(rows))
+
+    yield from built(A)
+    yield from (told((11, len(table) // 16)), "ee" * 128)
+    yield from built(spans((1801, 3600)))
+    yield from built(spans((1, 1), (2, 4), (35, 35)))
+
+    yield "lookups"
+    for budget in (4319, 4320, 5399, 5400):
+        found = [table[i:i + 16] for i in range(0, len(table), 16) if int.from_bytes(table[i:i + 4], "big") <= budget]
+        yield from (told(chosen(A, budget)[0]), found[-1].hex() if found else "")
 
 
 def main():

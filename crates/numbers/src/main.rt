@@ -16,6 +16,8 @@ fn main() {
     bad_periods();
     choices();
     zones();
+    tables();
+    lookups();
 }
 
 // Profile A's 25 bytes, read and written back.
@@ -148,6 +150,30 @@ fn zones() {
     show(v);
     show_bytes(&none);
     say(b"\n");
+}
+
+// A's table in room for nine rows and for eight, P10's, and one that has no row.
+fn tables() {
+    say(b"tables\n");
+    let r = codec::read_profile(&profile_a());
+    let a = r.profile;
+    show_table(a);
+    show_table_room(a);
+    show_table(one(job(1801, 3600, 1)));
+    show_table(spans(job(1, 1, 1), job(2, 4, 1), job(35, 35, 1)));
+}
+
+// P1 to P4 through A's table.
+fn lookups() {
+    say(b"lookups\n");
+    let r = codec::read_profile(&profile_a());
+    let a = r.profile;
+    let mut table = [0u8; 144];
+    table::build_table(a, &mut table);
+    show_lookup(a, &table, 4319);
+    show_lookup(a, &table, 4320);
+    show_lookup(a, &table, 5399);
+    show_lookup(a, &table, 5400);
 }
 
 // The length is said so that the array can be lent as a slice.
@@ -311,6 +337,35 @@ fn show_zones(p: Profile) {
     show(v);
     number(c.count);
     show_bytes(&out);
+    say(b"\n");
+}
+
+// The budget table, in a room for nine rows and a byte more.
+fn show_table(p: Profile) {
+    let mut out = [0xEEu8; 145];
+    let c = table::build_table(p, &mut out);
+    let v = c.verdict;
+    show(v);
+    number(c.count);
+    show_bytes(&out);
+    say(b"\n");
+}
+
+// The same in a room for eight.
+fn show_table_room(p: Profile) {
+    let mut out = [0xEEu8; 128];
+    let c = table::build_table(p, &mut out);
+    let v = c.verdict;
+    show(v);
+    show_bytes(&out);
+    say(b"\n");
+}
+
+// What is told of a budget, and the row's bytes.
+fn show_lookup(p: Profile, table: &[u8; 144], budget: u32) {
+    let v = lookup::judge_lookup(p, table, PagesPerHour(budget));
+    show(v);
+    show_bytes(lookup::lookup(p, table, PagesPerHour(budget)));
     say(b"\n");
 }
 
