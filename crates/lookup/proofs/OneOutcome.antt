@@ -1,21 +1,23 @@
--- Any two outcomes that a public contract of this crate allows are equal, and the two operations agree: the part is empty exactly on a refusal.
+-- Any two outcomes that a public contract of this crate allows are equal, and the operations agree: the part is empty exactly on a refusal,
+-- and else it is the row of the number told.
 -- Assumes nothing.
 use mathlib.Core.Path.{_≡_, refl, _∙_, sym, ap, subst}
 use mathlib.Core.List.{List, []}
-use Prim.Native.Nat.{ℕ, zero, suc, _*_}
+use Prim.Native.Nat.{ℕ, zero, suc, _*_, _-_}
 use native.Mathlib.Omega.{arith}
-use lib.ListN.{length, drop, length-drop}
+use lib.ListN.{length, take, drop, length-drop}
 use lib.Seq.{length-take-le}
 use lib.Dec.{T}
 use borrow.Author.Tests.{eqb-false, lt-ltb}
 use Rattle.model.specs.declared.PagesPerHour.{PagesPerHour}
 use Rattle.model.specs.declared.Profile.{Profile}
+use Rattle.model.specs.declared.Counted.{Counted}
 use Rattle.model.specs.declared.Verdict.{Verdict}
 use Rattle.model.specs.declared.Verdict.the-variants.{Sound}
 use Rattle.model.specs.Model.{numberOf}
 use Rattle.model.proofs.Verdicts.{Refuses, beside-sound, beside-refusal, sound-of-zero}
 use Rattle.lookup.specs.Table.{rowsIn}
-use Rattle.lookup.specs.Lookup.{lastWithin, LooksUp, Tells}
+use Rattle.lookup.specs.Lookup.{lastWithin, LooksUp, Locates, Tells}
 use Rattle.lookup.proofs.Finding.{found-answers}
 
 -- a part is the same bytes at the same place
@@ -24,6 +26,9 @@ lookup-one-outcome p bytes lies b one other = (one .holds ∙ sym (other .holds)
 
 pub judge-lookup-one-outcome : (p : Profile) (bytes : List ℕ) (b : PagesPerHour) {r s : Verdict} → Tells p bytes b r → Tells p bytes b s → r ≡ s
 judge-lookup-one-outcome p bytes b one other = one ∙ sym other
+
+pub locate-one-outcome : (p : Profile) (bytes : List ℕ) (b : PagesPerHour) {r s : Counted} → Locates p bytes b r → Locates p bytes b s → r ≡ s
+locate-one-outcome p bytes b one other = λ i. record { verdict = (one .verdict ∙ sym (other .verdict)) i; count = (one .count ∙ sym (other .count)) i }
 
 -- on the same inputs: a refusal and the empty part, or no refusal and the sixteen bytes of a row
 module _ (p : Profile) (bytes : List ℕ) (lies : ℕ × ℕ) (b : PagesPerHour) {r : List ℕ} {at : ℕ × ℕ} {v : Verdict} (part : LooksUp p bytes lies b r at) (told : Tells p bytes b v) where
@@ -47,3 +52,11 @@ refuses-of v none a = positive (numberOf v) refl
 -- the part is empty exactly when the verdict is a refusal
 pub lookups-agree : (p : Profile) (bytes : List ℕ) (lies : ℕ × ℕ) (b : PagesPerHour) {r : List ℕ} {at : ℕ × ℕ} {v : Verdict} → LooksUp p bytes lies b r at → Tells p bytes b v → (Refuses v → r ≡ []) × (r ≡ [] → Refuses v)
 lookups-agree p bytes lies b {r} {at} {v} part told = (refused-empty p bytes lies b part told, refuses-of v (λ (e : v ≡ Sound) (none : r ≡ []). eqb-false 16 0 refl (sym (sound-sixteen p bytes lies b part told e) ∙ ap length none)))
+
+-- where a row is handed back, it is the row of the number told beside it
+pub located-part : (p : Profile) (bytes : List ℕ) (lies : ℕ × ℕ) (b : PagesPerHour) {r : List ℕ} {at : ℕ × ℕ} {l : Counted} → LooksUp p bytes lies b r at → Locates p bytes b l → l .verdict ≡ Sound → r ≡ take 16 (drop (16 * (l .count - 1)) bytes)
+located-part p bytes lies b {r} {at} {l} part told e =
+    let s = sym e ∙ told .verdict in
+    let number = told .count ∙ sym (beside-sound _ _ s) in
+    let row : lastWithin bytes b (rowsIn bytes) ≡ l .count - 1 = omega arith in
+    part .holds ∙ sym (beside-sound _ _ s) ∙ ap (λ (n : ℕ). take 16 (drop (16 * n) bytes)) row

@@ -10,6 +10,7 @@ use Rattle.model.specs.declared.Seconds.{Seconds}
 use Rattle.model.specs.declared.PagesPerHour.{PagesPerHour}
 use Rattle.model.specs.declared.Job.{Job}
 use Rattle.model.specs.declared.Profile.{Profile}
+use Rattle.model.specs.declared.Counted.{Counted}
 use Rattle.model.specs.declared.Verdict.{Verdict}
 use Rattle.model.specs.declared.Verdict.the-variants.{Sound, Budget, Row}
 use Rattle.model.specs.Model.{seconds, noJob, refuseIf, orElse, ifSound, verdictOf}
@@ -69,6 +70,11 @@ answerPlace p bytes b = ifSound (lookupVerdict p bytes b) (16 * lastWithin bytes
 pub record LooksUp (p : Profile) (bytes : List ℕ) (lies : ℕ × ℕ) (b : PagesPerHour) (part : List ℕ) (at : ℕ × ℕ) : Type 0 where
   pub holds : part ≡ ifSound (lookupVerdict p bytes b) (take 16 (drop (16 * lastWithin bytes b (rowsIn bytes)) bytes)) []
   pub place : at ≡ (lies .0, lies .1 + answerPlace p bytes b)
+
+-- What `locate` may answer: the verdict, and the number of the row that answers, counted from 1, 0 beside a refusal.
+pub record Locates (p : Profile) (bytes : List ℕ) (b : PagesPerHour) (r : Counted) : Type 0 where
+  pub verdict : r .verdict ≡ lookupVerdict p bytes b
+  pub count : r .count ≡ ifSound (lookupVerdict p bytes b) (lastWithin bytes b (rowsIn bytes) + 1) 0
 
 -- What `judge_lookup` may answer.
 abbrev pub Tells : Profile → List ℕ → PagesPerHour → Verdict → Type 0

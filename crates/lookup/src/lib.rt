@@ -2,6 +2,7 @@
 //
 // specs/Table.antt says when a table is well formed and which row answers, specs/Lookup.antt what is answered. Nothing
 // is assumed, and no public function has a `requires`.
+use model::Counted;
 use model::PagesPerHour;
 use model::Profile;
 use model::Seconds;
@@ -13,7 +14,7 @@ ghost use Rattle.codec.specs.Packing.{unpack};
 ghost use Rattle.codec.specs.Rows.{tableWidths};
 ghost use Rattle.model.specs.Model.{Valid};
 ghost use Rattle.lookup.specs.Table.{rowsIn};
-ghost use Rattle.lookup.specs.Lookup.{placeRight, follows, firstBad, lastWithin, LooksUp, Tells};
+ghost use Rattle.lookup.specs.Lookup.{placeRight, follows, firstBad, lastWithin, LooksUp, Locates, Tells};
 ghost use Rattle.lookup.specs.Cut.{rowOf, rowAt};
 
 // A table row's start and its eight periods.
@@ -26,12 +27,31 @@ struct TableRow {
 pub fn lookup<'a>(p: Profile, table: &'a [u8], budget: PagesPerHour) -> &'a [u8]
     ensures { λ r. ⌜ LooksUp p (now (table .entry)) (ptr (table .entry)) budget (now r) (ptr r) ⌝ }
 {
-    let v = judge_lookup(p, table, budget);
+    let found = locate(p, table, budget);
+    let v = found.verdict;
     let Verdict::Sound = v else {
         return &table[0..0];
     };
-    let at = 16 * last_within(table, budget);
-    &table[at..at + 16]
+    let end = 16 * (found.count as usize);
+    &table[end - 16..end]
+}
+
+// The number of that row, counted from 1; 0 beside a refusal.
+pub fn locate(p: Profile, table: &[u8], budget: PagesPerHour) -> Counted
+    ensures { λ r. ⌜ Locates p (now (table .entry)) budget r ⌝ }
+{
+    let v = judge_lookup(p, table, budget);
+    let Verdict::Sound = v else {
+        return Counted {
+            verdict: v,
+            count: 0,
+        };
+    };
+    let row = last_within(table, budget) + 1;
+    Counted {
+        verdict: Verdict::Sound,
+        count: row as u64,
+    }
 }
 
 // Whether there is such a row, or the number and detail of the refusal.
