@@ -48,6 +48,13 @@ uint64_t charopleth_zones(uint32_t n, const uint32_t jobs[40], uint8_t *room, si
  * no periods are permitted, and 11 where length / 16 rows are too few, with the number needed. */
 uint64_t charopleth_table(uint32_t n, const uint32_t jobs[40], uint8_t *room, size_t length);
 
+/* The row of a lent table that answers a budget: the last whose start is at most that. The table need not be complete, but it
+ * is checked in full before it is believed: each row has permitted periods with zeros beyond n, a start equal to their need,
+ * and a greater start and a smaller loss than the row before. Returns the row's number, counted from 1, so that its sixteen
+ * bytes begin at table + 16 * (number - 1). Refuses 12 with the number of the first row that is not so, or with 0 where length
+ * is not a positive multiple of 16, and 10 where the first start is above the budget, with that start. */
+uint64_t charopleth_lookup(uint32_t n, const uint32_t jobs[40], const uint8_t *table, size_t length, uint32_t budget);
+
 #ifdef __cplusplus
 }
 #endif

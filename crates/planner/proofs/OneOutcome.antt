@@ -9,7 +9,8 @@ use Rattle.choose.specs.declared.Choice.{Choice}
 use Rattle.choose.proofs.OneOutcome.{choose-one-outcome}
 use Rattle.zones.proofs.OneOutcome.{list-zones-one-outcome}
 use Rattle.table.proofs.OneOutcome.{build-table-one-outcome}
-use Rattle.planner.specs.ForC.{BuildsForC, resultOf, countedOf, profileIn, answerOf, ChoosesForC, ListsForC}
+use Rattle.lookup.proofs.OneOutcome.{locate-one-outcome}
+use Rattle.planner.specs.ForC.{BuildsForC, LooksUpForC, resultOf, countedOf, profileIn, answerOf, ChoosesForC, ListsForC}
 
 pub charopleth-choose-one-outcome : (n : ℕ) (jobs : List ℕ) (budget : ℕ) (old : List ℕ) {r s : ℕ} {new other-new : List ℕ} → ChoosesForC n jobs budget old r new → ChoosesForC n jobs budget old s other-new → (r ≡ s) × (new ≡ other-new)
 charopleth-choose-one-outcome n jobs budget old one other =
@@ -27,3 +28,7 @@ pub charopleth-table-one-outcome : (n : ℕ) (jobs : List ℕ) (old : List ℕ) 
 charopleth-table-one-outcome n jobs old one other =
     let same = build-table-one-outcome (profileIn n jobs) old (one .built) (other .built) in
     (one .result ∙ ap countedOf (same .0) ∙ sym (other .result), same .1)
+
+pub charopleth-lookup-one-outcome : (n : ℕ) (jobs : List ℕ) (table : List ℕ) (budget : ℕ) {r s : ℕ} → LooksUpForC n jobs table budget r → LooksUpForC n jobs table budget s → r ≡ s
+charopleth-lookup-one-outcome n jobs table budget one other =
+    one .result ∙ ap countedOf (locate-one-outcome (profileIn n jobs) table (pagesPerHour budget) (one .found) (other .found)) ∙ sym (other .result)

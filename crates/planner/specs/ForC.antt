@@ -16,6 +16,7 @@ use Rattle.choose.specs.declared.Choice.{Choice}
 use Rattle.choose.specs.Choice.{Chosen}
 use Rattle.zones.specs.Zones.{Listed}
 use Rattle.table.specs.Table.{Built}
+use Rattle.lookup.specs.Lookup.{Locates}
 
 -- A verdict as one number: the refusal's number above 48 bits of detail. A detail that they do not hold is told as their greatest.
 unfoldable pub resultOf : Verdict → ℕ
@@ -58,3 +59,9 @@ pub record BuildsForC (n : ℕ) (jobs : List ℕ) (old : List ℕ) (r : ℕ) (ne
   pub building : Counted
   pub built : Built (profileIn n jobs) old building new
   pub result : r ≡ countedOf building
+
+-- What `charopleth_lookup` may answer for a lent table: the row's number, or the refusal, as `locate` has it.
+pub record LooksUpForC (n : ℕ) (jobs : List ℕ) (table : List ℕ) (budget : ℕ) (r : ℕ) : Type 0 where
+  pub finding : Counted
+  pub found : Locates (profileIn n jobs) table (pagesPerHour budget) finding
+  pub result : r ≡ countedOf finding

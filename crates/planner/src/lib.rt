@@ -11,7 +11,7 @@ use model::Verdict;
 ghost use mathlib.Core.Path.{_≡_};
 ghost use Prim.Native.Nat.{_<_};
 ghost use lib.Seq.{sets};
-ghost use Rattle.planner.specs.ForC.{resultOf, countedOf, jobIn, profileIn, answerOf, ChoosesForC, ListsForC, BuildsForC};
+ghost use Rattle.planner.specs.ForC.{resultOf, countedOf, jobIn, profileIn, answerOf, ChoosesForC, ListsForC, BuildsForC, LooksUpForC};
 
 // The best periods for a budget.
 #[no_mangle]
@@ -48,6 +48,15 @@ pub extern "C" fn charopleth_table(n: u32, jobs: &[u32; 40], room: &mut [u8]) ->
     ensures { λ r. ⌜ BuildsForC n (now (jobs .entry)) (now (room .entry)) r (now (room .exit)) ⌝ }
 {
     let c = table::build_table(profile(n, jobs), room);
+    counted(c)
+}
+
+// The number, counted from 1, of the row of a lent table that answers a budget.
+#[no_mangle]
+pub extern "C" fn charopleth_lookup(n: u32, jobs: &[u32; 40], table: &[u8], budget: u32) -> u64
+    ensures { λ r. ⌜ LooksUpForC n (now (jobs .entry)) (now (table .entry)) budget r ⌝ }
+{
+    let c = lookup::locate(profile(n, jobs), table, PagesPerHour(budget));
     counted(c)
 }
 
