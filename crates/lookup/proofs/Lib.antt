@@ -3,6 +3,7 @@ pub mod Cutting
 pub mod Finding
 pub mod Formed
 pub mod Judging
+pub mod Laid
 pub mod Numbers
 pub mod OneOutcome
 pub mod Places

@@ -44,7 +44,7 @@ getD-padded [] k i = getD-zeros k i
 getD-padded (t ∷ ts) k zero = refl
 getD-padded (t ∷ ts) k (suc i) = getD-padded ts k i
 
-same-entries : (xs ys : List Seconds) (i k : ℕ) → ((j : ℕ) → getD xs j (seconds 0) ≡ getD ys j (seconds 0)) → entries (seconds 0) xs i k ≡ entries (seconds 0) ys i k
+pub same-entries : (xs ys : List Seconds) (i k : ℕ) → ((j : ℕ) → getD xs j (seconds 0) ≡ getD ys j (seconds 0)) → entries (seconds 0) xs i k ≡ entries (seconds 0) ys i k
 unfolding entries
 same-entries xs ys i zero h = refl
 same-entries xs ys i (suc k) h = ap₂ _∷_ (h i) (same-entries xs ys (i + 1) k h)
@@ -54,7 +54,7 @@ unfolding tableRow
 padded-row q ts = ap (λ (l : List Seconds). recut tableWidths (byteWidths 16) (q .0 ∷ map (λ t. t .0) l)) (same-entries (padded ts) ts 0 8 (getD-padded ts (8 - length ts)))
 
 -- each permitted period is within the hour
-period-to : (before : Seconds) (js : List Job) (ts : List Seconds) → ValidJobs js → PermittedAfter before js ts → (i : ℕ) → getD ts i (seconds 0) .0 ≤ 3600
+pub period-to : (before : Seconds) (js : List Job) (ts : List Seconds) → ValidJobs js → PermittedAfter before js ts → (i : ℕ) → getD ts i (seconds 0) .0 ≤ 3600
 period-to before [] [] v h i = omega arith
 period-to before [] (t ∷ ts) v h i = absurd h
 period-to before (j ∷ js) [] v h i = omega arith
