@@ -8,4 +8,5 @@ pub mod Laid
 pub mod Numbers
 pub mod OneOutcome
 pub mod Places
+pub mod TableFormed
 pub mod Turns
