@@ -2,7 +2,7 @@
 -- Assumes nothing.
 use mathlib.Core.Path.{_≡_, refl, sym, _∙_, ap}
 use mathlib.Core.List.{List}
-use mathlib.Core.Bool.{Bool, true, false, not, cond, _&&_}
+use mathlib.Core.Bool.{Bool, true, false, cond, _&&_}
 use mathlib.Core.Logic.{⊎-elim}
 use Prim.Native.Nat.{ℕ, zero, suc, _+_, _-_, _%_, _≤_, _<_}
 use native.Mathlib.Nat.{eq-or-lt-of-le}
@@ -123,12 +123,16 @@ unfolding refuseIf
 no-twelve start true h = eqb-false 10 12 refl h
 no-twelve start false h = eqb-false 0 12 refl h
 
--- a well-formed table is not refused with 12
-pub formed-passes : (p : Profile) (bytes : List ℕ) (b : PagesPerHour) → Valid p → WellFormed p bytes → numberOf (lookupVerdict p bytes b) ≡ 12 → ⊥
-formed-passes p bytes b v w e =
+-- past a well-formed table only the budget decides
+pub formed-verdict : (p : Profile) (bytes : List ℕ) (b : PagesPerHour) → Valid p → WellFormed p bytes → lookupVerdict p bytes b ≡ refuseIf (ltb (b .0) (startAt bytes 0 .0)) (Budget (startAt bytes 0)) Sound
+formed-verdict p bytes b v w =
     let none = all-right p bytes (rowsIn bytes) 0 (λ k from to. good-right p bytes (v .n-to) k (w .rows k (omega arith))) in
     let whole : Whole bytes = record { some = λ z. omega (arith, w .some); whole = w .whole } in
-    no-twelve (startAt bytes 0) (ltb (b .0) (startAt bytes 0 .0)) (ap numberOf (all-good p bytes b whole (omega arith) ∙ sym (table-decides p bytes b v)) ∙ e)
+    table-decides p bytes b v ∙ sym (all-good p bytes b whole (omega arith))
+
+-- so it is not refused with 12
+pub formed-passes : (p : Profile) (bytes : List ℕ) (b : PagesPerHour) → Valid p → WellFormed p bytes → numberOf (lookupVerdict p bytes b) ≡ 12 → ⊥
+formed-passes p bytes b v w e = no-twelve (startAt bytes 0) (ltb (b .0) (startAt bytes 0 .0)) (ap numberOf (sym (formed-verdict p bytes b v w)) ∙ e)
 
 -- and a table that is not so refused is well formed
 pub passes-formed : (p : Profile) (bytes : List ℕ) (b : PagesPerHour) → Valid p → (numberOf (lookupVerdict p bytes b) ≡ 12 → ⊥) → WellFormed p bytes

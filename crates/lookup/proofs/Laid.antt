@@ -79,6 +79,12 @@ row-member [] k less = absurd (not-suc-le-zero less)
 row-member (ts ∷ rows) zero less = List·Memᴰ·head refl
 row-member (ts ∷ rows) (suc k) less = List·Memᴰ·tail (row-member rows k (le-of-suc-le-suc less))
 
+pub member-row : {ts : List Seconds} {rows : List (List Seconds)} → List·Memᴰ ts rows → (k : ℕ) × (k < length rows) × (getD rows k [] ≡ ts)
+member-row (List·Memᴰ·head e) = (0, omega arith, sym e)
+member-row (List·Memᴰ·tail m) =
+    let r = member-row m in
+    (suc (r .0), omega (arith, r .1), r .2)
+
 -- the sixteen bytes at a row's place, whatever stands behind the table
 row-there : (js : List Job) (rows : List (List Seconds)) (rest : List ℕ) (k : ℕ) → k < length rows → take 16 (drop (16 * k) (tableBytes js rows ++ rest)) ≡ tableRow (need js (getD rows k [])) (getD rows k [])
 unfolding tableBytes

@@ -5,6 +5,7 @@ pub mod Formed
 pub mod InOrder
 pub mod Judging
 pub mod Laid
+pub mod LookedUp
 pub mod Numbers
 pub mod OneOutcome
 pub mod Places
