@@ -24,8 +24,7 @@ uint64_t reference_judge(uint32_t n, const uint32_t jobs[40])
 }
 
 struct plan {
-    uint64_t loss, need;
-    uint32_t periods[8];
+    uint64_t loss, need, periods[8];
 };
 
 /* One enumeration of all permitted lists, in the order of the lists; `visit` is called at each. */
@@ -226,6 +225,14 @@ static int better(const void *a, const void *b)
     return 0;
 }
 
+void reference_row(uint64_t need, const uint64_t periods[8], uint8_t row[16])
+{
+    memset(row, 0, 16);
+    int at = put_field(row, 0, 32, need);
+    for (int k = 0; k < 8; k++)
+        at = put_field(row, at, 12, periods[k]);
+}
+
 uint64_t reference_table(uint32_t n, const uint32_t jobs[40], uint8_t *room, uint64_t length, uint64_t most)
 {
     uint64_t verdict = reference_judge(n, jobs);
@@ -244,12 +251,59 @@ uint64_t reference_table(uint32_t n, const uint32_t jobs[40], uint8_t *room, uin
     if (result == rows)
         for (uint64_t i = 0; i < rows; i++) {
             const struct plan *plan = s.plans + (rows - 1 - i);
-            uint8_t *row = room + 16 * i;
-            memset(row, 0, 16);
-            int at = put_field(row, 0, 32, plan->need);
-            for (int k = 0; k < 8; k++)
-                at = put_field(row, at, 12, plan->periods[k]);
+            reference_row(plan->need, plan->periods, room + 16 * i);
         }
     free(s.plans);
     return result;
+}
+
+/* The field of some bits from bit `at` of a row on. */
+static uint32_t get_field(const uint8_t row[16], int at, int width)
+{
+    uint32_t value = 0;
+    for (int end = at + width; at < end; at++)
+        value = value << 1 | (row[at / 8] >> (7 - at % 8) & 1);
+    return value;
+}
+
+/* A row's periods into the search; whether they are permitted, with zeros beyond n. */
+static int take_periods(struct search *s, const uint8_t row[16])
+{
+    uint32_t before = 1;
+    for (uint32_t i = 0; i < 8; i++) {
+        uint32_t t = s->periods[i] = get_field(row, 32 + 12 * (int)i, 12);
+        if (i >= s->n) {
+            if (t != 0)
+                return 0;
+            continue;
+        }
+        if (t < s->jobs[5 * i + LO] || t > s->jobs[5 * i + HI] || t % before != 0)
+            return 0;
+        before = t;
+    }
+    return 1;
+}
+
+uint64_t reference_lookup(uint32_t n, const uint32_t jobs[40], const uint8_t *table, uint64_t length, uint32_t budget)
+{
+    uint64_t verdict = reference_judge(n, jobs), start_before = 0, loss_before = 0, answer = 0;
+    if (verdict != 0)
+        return verdict;
+    if (length == 0 || length % 16 != 0)
+        return refusal(12, 0);
+    struct search s = {.n = n, .jobs = jobs};
+    for (uint64_t k = 0; k < length / 16; k++) {
+        const uint8_t *row = table + 16 * k;
+        uint64_t start = get_field(row, 0, 32);
+        if (!take_periods(&s, row) || need_of(&s) != start)
+            return refusal(12, k + 1);
+        uint64_t loss = loss_of(&s);
+        if (k > 0 && (start <= start_before || loss >= loss_before))
+            return refusal(12, k + 1);
+        start_before = start;
+        loss_before = loss;
+        if (start <= budget)
+            answer = k + 1;
+    }
+    return answer ? answer : refusal(10, get_field(table, 0, 32));
 }

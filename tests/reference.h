@@ -14,6 +14,12 @@ uint64_t reference_zones(uint32_t n, const uint32_t jobs[40], uint8_t *room, uin
 /* The table from all plans, sorted; REFERENCE_LONG where more than `most` parts of lists would be visited. */
 uint64_t reference_table(uint32_t n, const uint32_t jobs[40], uint8_t *room, uint64_t length, uint64_t most);
 
+/* The sixteen bytes of a table row. */
+void reference_row(uint64_t need, const uint64_t periods[8], uint8_t row[16]);
+
+/* The number of the row that answers a budget, from 1, by the rules row by row. */
+uint64_t reference_lookup(uint32_t n, const uint32_t jobs[40], const uint8_t *table, uint64_t length, uint32_t budget);
+
 /* The verdict on the values alone, 0 or the refusal. */
 uint64_t reference_judge(uint32_t n, const uint32_t jobs[40]);
 
