@@ -62,11 +62,34 @@ static int as_chosen(uint32_t budget)
     return equal;
 }
 
+/* Puts a row of permitted periods, with their true start, among the rows by that start: well formed where its loss is
+ * between those beside it, and of equal loss where whole pages tie. */
+static void insert(void)
+{
+    uint32_t list[8] = {0}, before = 1;
+    for (uint32_t i = 0; i < l.n; i++) {
+        uint32_t least = (l.jobs[5 * i] + before - 1) / before, most = l.jobs[5 * i + 1] / before;
+        if (most < least)
+            return;
+        before = list[i] = before * (least + below(most - least + 1));
+    }
+    uint64_t scores[2], periods[8], row = 0;
+    if (l.length > MOST - 16 || reference_score(l.n, l.jobs, list, scores) != 0)
+        return;
+    for (int i = 0; i < 8; i++)
+        periods[i] = list[i];
+    while (row < l.length / 16 && start_of(row) < scores[0])
+        row++;
+    memmove(l.table + 16 * row + 16, l.table + 16 * row, l.length - 16 * row);
+    reference_row(scores[0], periods, l.table + 16 * row);
+    l.length += 16;
+}
+
 static void damage(void)
 {
     uint32_t rows = (uint32_t)(l.length / 16);
     uint8_t row[16], *one = l.table + 16 * below(rows), *other = l.table + 16 * below(rows);
-    switch (below(6)) {
+    switch (below(8)) {
     case 0: /* a bit */
         l.table[below((uint32_t)l.length)] ^= (uint8_t)(1u << below(8));
         break;
@@ -84,6 +107,10 @@ static void damage(void)
     case 4: /* a row left out: still well formed, unless it was the only one */
         memmove(one, one + 16, (size_t)(l.table + l.length - (one + 16)));
         l.length -= 16;
+        break;
+    case 5:
+    case 6:
+        insert();
         break;
     default: /* a length that is no multiple of 16, or fewer rows */
         l.length = below((uint32_t)l.length + 16);

@@ -266,22 +266,43 @@ static uint32_t get_field(const uint8_t row[16], int at, int width)
     return value;
 }
 
+/* The first job, from 1, whose period is outside its interval or no multiple of the one before; 0 where there is none. */
+static uint32_t first_bad_period(const struct search *s)
+{
+    uint32_t before = 1;
+    for (uint32_t i = 0; i < s->n; i++) {
+        uint32_t t = s->periods[i];
+        if (t < s->jobs[5 * i + LO] || t > s->jobs[5 * i + HI] || t % before != 0)
+            return i + 1;
+        before = t;
+    }
+    return 0;
+}
+
+uint64_t reference_score(uint32_t n, const uint32_t jobs[40], const uint32_t periods[8], uint64_t answer[2])
+{
+    uint64_t verdict = reference_judge(n, jobs);
+    if (verdict != 0)
+        return verdict;
+    struct search s = {.n = n, .jobs = jobs};
+    memcpy(s.periods, periods, sizeof s.periods);
+    uint32_t bad = first_bad_period(&s);
+    if (bad != 0)
+        return refusal(13, bad);
+    answer[0] = need_of(&s);
+    answer[1] = loss_of(&s);
+    return 0;
+}
+
 /* A row's periods into the search; whether they are permitted, with zeros beyond n. */
 static int take_periods(struct search *s, const uint8_t row[16])
 {
-    uint32_t before = 1;
     for (uint32_t i = 0; i < 8; i++) {
-        uint32_t t = s->periods[i] = get_field(row, 32 + 12 * (int)i, 12);
-        if (i >= s->n) {
-            if (t != 0)
-                return 0;
-            continue;
-        }
-        if (t < s->jobs[5 * i + LO] || t > s->jobs[5 * i + HI] || t % before != 0)
+        s->periods[i] = get_field(row, 32 + 12 * (int)i, 12);
+        if (i >= s->n && s->periods[i] != 0)
             return 0;
-        before = t;
     }
-    return 1;
+    return first_bad_period(s) == 0;
 }
 
 uint64_t reference_lookup(uint32_t n, const uint32_t jobs[40], const uint8_t *table, uint64_t length, uint32_t budget)

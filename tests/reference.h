@@ -8,6 +8,9 @@
 #define REFERENCE_LONG UINT64_MAX
 uint64_t reference_choose(uint32_t n, const uint32_t jobs[40], uint32_t budget, uint64_t answer[10], uint64_t most);
 
+/* The need and the loss of given periods. */
+uint64_t reference_score(uint32_t n, const uint32_t jobs[40], const uint32_t periods[8], uint64_t answer[2]);
+
 /* The zones by grouping the permitted lists; REFERENCE_LONG where more than `most` parts of lists would be visited. */
 uint64_t reference_zones(uint32_t n, const uint32_t jobs[40], uint8_t *room, uint64_t length, uint64_t most);
 
