@@ -30,6 +30,22 @@ extern "C" {
 #define CHAROPLETH_REFUSAL(result) ((unsigned)((result) >> 48))
 #define CHAROPLETH_DETAIL(result) ((result) & 0xffffffffffffu)
 
+/* The values that a profile's bytes stand for. values: n, then the 40 numbers of its jobs, zeros beyond n, so that values[0]
+ * and values + 1 are what the other functions take. Returns 0 where they were read. The bytes hold 4 bits of edition, 4 of n,
+ * then for each job 12 bits of lo, 12 of hi, 15 of data, 15 of metadata, 6 of stiffness and 4 spare, most significant first.
+ * Refuses 1 where there are no bytes, 2 where the edition is not 1, 3 as above, 4 where length is not 1 + 8n; then the first
+ * bad job, 5 and 6 as above, and 7 where its spare bits are not zero. */
+uint64_t charopleth_read(const uint8_t *profile, size_t length, uint32_t values[41]);
+
+/* A profile's bytes at the front of `room`. Returns their number, 1 + 8n; bytes after them are untouched. Refuses 11 where
+ * length is too small, with the number needed. */
+uint64_t charopleth_write(uint32_t n, const uint32_t jobs[40], uint8_t *room, size_t length);
+
+/* What given periods need and lose. periods: eight numbers of seconds, of which those beyond n are ignored. answer: the need
+ * in pages per hour, and the loss. Returns 0 where they were scored. Refuses 13 with the number, from 1, of the first job
+ * whose period is outside its interval or no multiple of the period before. */
+uint64_t charopleth_score(uint32_t n, const uint32_t jobs[40], const uint32_t periods[8], uint64_t answer[2]);
+
 /* The best periods for a budget of flash pages per hour: among permitted periods that fit it those with the least loss, on
  * equal loss the least need, on equal need the list that is smaller at its first difference. answer: the need in pages per
  * hour, the loss, and eight periods in seconds, 0 beyond n. Returns 0 where periods were chosen. Refuses 9 where no periods

@@ -11,7 +11,51 @@ use model::Verdict;
 ghost use mathlib.Core.Path.{_≡_};
 ghost use Prim.Native.Nat.{_<_};
 ghost use lib.Seq.{sets};
-ghost use Rattle.planner.specs.ForC.{resultOf, countedOf, jobIn, profileIn, answerOf, ChoosesForC, ListsForC, BuildsForC, LooksUpForC};
+ghost use Rattle.planner.specs.ForC.{resultOf, countedOf, jobIn, profileIn, jobNumbers, numbersOf, periodsIn, answerOf, ReadsForC, WritesForC, ScoresForC, ChoosesForC, ListsForC, BuildsForC, LooksUpForC};
+
+// The values that a profile's bytes stand for, into 41 numbers.
+#[no_mangle]
+pub extern "C" fn charopleth_read(bytes: &[u8], values: &mut [u32; 41]) -> u64
+    ensures { λ r. ⌜ ReadsForC (now (bytes .entry)) (now (values .entry)) r (now (values .exit)) ⌝ }
+{
+    let r = codec::read_profile(bytes);
+    let v = r.verdict;
+    let Verdict::Sound = v else {
+        return result(v);
+    };
+    let p = r.profile;
+    put_values(p, values);
+    0
+}
+
+// A profile's bytes to the front of a lent room; the count of bytes.
+#[no_mangle]
+pub extern "C" fn charopleth_write(n: u32, jobs: &[u32; 40], room: &mut [u8]) -> u64
+    ensures { λ r. ⌜ WritesForC n (now (jobs .entry)) (now (room .entry)) r (now (room .exit)) ⌝ }
+{
+    let c = codec::write_profile(profile(n, jobs), room);
+    counted(c)
+}
+
+// The need and the loss of given periods, into two numbers.
+#[no_mangle]
+pub extern "C" fn charopleth_score(
+    n: u32,
+    jobs: &[u32; 40],
+    periods: &[u32; 8],
+    answer: &mut [u64; 2],
+) -> u64
+    ensures { λ r. ⌜ ScoresForC n (now (jobs .entry)) (now (periods .entry)) (now (answer .entry)) r (now (answer .exit)) ⌝ }
+{
+    let s = score::score(profile(n, jobs), as_periods(periods));
+    let v = s.verdict;
+    let Verdict::Sound = v else {
+        return result(v);
+    };
+    answer[0] = s.need.0 as u64;
+    answer[1] = s.loss;
+    0
+}
 
 // The best periods for a budget.
 #[no_mangle]
@@ -74,6 +118,33 @@ fn counted(c: Counted) -> u64
     c.count
 }
 
+// n and eight jobs into 41 numbers.
+fn put_values(p: Profile, values: &mut [u32; 41])
+    ensures { λ _. ⌜ now (values .exit) ≡ sets (now (values .entry)) 0 (numbersOf p) ⌝ }
+{
+    values[0] = p.n;
+    put_job(p.jobs[0], values, 1);
+    put_job(p.jobs[1], values, 6);
+    put_job(p.jobs[2], values, 11);
+    put_job(p.jobs[3], values, 16);
+    put_job(p.jobs[4], values, 21);
+    put_job(p.jobs[5], values, 26);
+    put_job(p.jobs[6], values, 31);
+    put_job(p.jobs[7], values, 36);
+}
+
+// A job's five numbers from `at` on.
+fn put_job(j: Job, values: &mut [u32; 41], at: usize)
+    requires { ⌜ at < 37 ⌝ }
+    ensures { λ _. ⌜ now (values .exit) ≡ sets (now (values .entry)) at (jobNumbers j) ⌝ }
+{
+    values[at] = j.lo.0;
+    values[at + 1] = j.hi.0;
+    values[at + 2] = j.data;
+    values[at + 3] = j.metadata;
+    values[at + 4] = j.stiffness;
+}
+
 // Need, loss and eight periods into ten numbers.
 fn put_answer(need: PagesPerHour, loss: u64, periods: [Seconds; 8], answer: &mut [u64; 10])
     ensures { λ _. ⌜ now (answer .exit) ≡ sets (now (answer .entry)) 0 (answerOf need loss periods) ⌝ }
@@ -105,6 +176,22 @@ fn result(v: Verdict) -> u64
         return (model::number(v) as u64) * 0x1_0000_0000_0000 + 0xffff_ffff_ffff;
     }
     (model::number(v) as u64) * 0x1_0000_0000_0000 + detail
+}
+
+// Eight numbers as periods.
+fn as_periods(periods: &[u32; 8]) -> [Seconds; 8]
+    ensures { λ r. ⌜ r ≡ periodsIn (now (periods .entry)) ⌝ }
+{
+    [
+        Seconds(periods[0]),
+        Seconds(periods[1]),
+        Seconds(periods[2]),
+        Seconds(periods[3]),
+        Seconds(periods[4]),
+        Seconds(periods[5]),
+        Seconds(periods[6]),
+        Seconds(periods[7]),
+    ]
 }
 
 // A profile from n and 40 numbers.

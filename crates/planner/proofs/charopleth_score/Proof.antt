@@ -1,0 +1,69 @@
+-- `planner::charopleth_score` meets its contract: the score for the profile and the periods that the numbers hold, handed on.
+-- Assumes nothing.
+use mathlib.Core.Path.{refl, _∙_, sym, ap, subst}
+use mathlib.Core.List.{List}
+use Rattle.model.specs.declared.Seconds.{Seconds}
+use Rattle.model.specs.declared.Profile.{Profile}
+use Rattle.model.proofs.Verdicts.{refuses, beside-sound, beside-refusal}
+use Rattle.score.specs.Scoring.{Scores}
+use Rattle.planner.specs.ForC.{resultOf, profileIn, periodsIn}
+use borrow.Author.Needs.{needs}
+use Rattle.planner.proofs.charopleth_score.Statement.{statement}
+use Rattle.planner.proofs.charopleth_score.Tie as tie
+
+-- the score is that of the profile and the periods which the numbers hold
+of-these : (c : tie.After-score) → Scores (profileIn (c .before .before .before .args .n) (c .before .before .before .args .jobs .now)) (periodsIn (c .before .before .before .args .periods .now)) (c .score .result)
+of-these c =
+    let r = c .score .result in
+    subst (λ (p : Profile). Scores p (periodsIn (c .before .before .before .args .periods .now)) r) (c .before .before .profile .ensures) (subst (λ (ts : List Seconds). Scores (c .before .before .profile .result) ts r) (c .before .as-periods .ensures) (c .score .ensures))
+
+profile-requires : tie.Need-profile-requires
+profile-requires c κs = search needs
+
+as-periods-requires : tie.Need-as-periods-requires
+as-periods-requires c κs = search needs
+
+score-requires : tie.Need-score-requires
+score-requires c κs = search needs
+
+enum-told : tie.Need-enum-told
+enum-told c = search needs
+
+result-requires : tie.Need-result-requires
+result-requires c κs = search needs
+
+returns : tie.Need-returns
+returns c =
+    let s = c .before .before in
+    record { scoring = s .score .result; scored = of-these s; result = c .result .ensures; answer = beside-refusal _ _ (refuses (s .score .result .verdict) (c .before .match .keys2)) refl }
+
+cast-answer : tie.Need-cast-answer
+cast-answer c = search needs
+
+element-write-answer : tie.Need-element-write-answer
+element-write-answer c = search needs
+
+element-write-answer-2 : tie.Need-element-write-answer-2
+element-write-answer-2 c = search needs
+
+returns-2 : tie.Need-returns-2
+returns-2 c =
+    let t = c .before in
+    let s = t .before .before in
+    let sound = t .enum-told .given .1 in
+    record { scoring = s .score .result; scored = of-these s; result = unfold resultOf in (ap resultOf (sym sound)); answer = beside-sound _ _ (sym sound) }
+
+pub charopleth-score-spec : {M : Type 1} → statement M
+charopleth-score-spec =
+    tie.close
+    (tie.spec
+    profile-requires
+    as-periods-requires
+    score-requires
+    enum-told
+    result-requires
+    returns
+    cast-answer
+    element-write-answer
+    element-write-answer-2
+    returns-2)
