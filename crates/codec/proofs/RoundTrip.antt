@@ -117,7 +117,7 @@ written-reads-back p old {w} {new} {r} written sound read =
 abbrev pub Bytes : List ℕ → Type 0
 Bytes bytes = Within (byteWidths (length bytes)) bytes
 
-within-split : (k m : ℕ) (l : List ℕ) → Within (byteWidths (k + m)) l → Within (byteWidths k) (take k l) × Within (byteWidths m) (drop k l)
+pub within-split : (k m : ℕ) (l : List ℕ) → Within (byteWidths (k + m)) l → Within (byteWidths k) (take k l) × Within (byteWidths m) (drop k l)
 within-split zero m l h = (tt, subst (λ (n : ℕ). Within (byteWidths n) l) (zero-add m) h)
 within-split (suc k) m [] h = absurd (subst (λ (n : ℕ). Within (byteWidths n) []) (suc-add k m) h)
 within-split (suc k) m (b ∷ l) h =

@@ -31,13 +31,14 @@ permitted-length before [] (t ∷ ts) h = absurd h
 permitted-length before (j ∷ js) [] h = absurd h
 permitted-length before (j ∷ js) (t ∷ ts) h = ap suc (permitted-length t js ts (h .1))
 
+pub all-entries : (ts : List Seconds) (k : ℕ) → length ts ≡ k → entries (seconds 0) ts 0 k ≡ ts
+all-entries ts k size = ap₂ (λ (l : List Seconds) (n : ℕ). entries (seconds 0) l 0 n) (sym (append-nil ts)) (sym size) ∙ entries-front (seconds 0) ts []
+
 -- eight entries are the list and the zeros behind it
 eight-entries : (ts : List Seconds) → length ts ≤ 8 → entries (seconds 0) ts 0 8 ≡ padded ts
 eight-entries ts few =
     let size : length (padded ts) ≡ 8 = length-append ts (replicate (8 - length ts) (seconds 0)) ∙ omega (arith, length-replicate (8 - length ts) (seconds 0)) in
-    same-entries ts (padded ts) 0 8 (λ j. sym (getD-padded ts (8 - length ts) j))
-    ∙ ap₂ (λ (l : List Seconds) (k : ℕ). entries (seconds 0) l 0 k) (sym (append-nil (padded ts))) (sym size)
-    ∙ entries-front (seconds 0) (padded ts) []
+    same-entries ts (padded ts) 0 8 (λ j. sym (getD-padded ts (8 - length ts) j)) ∙ all-entries (padded ts) 8 size
 
 seconds-again : (ts : List Seconds) → map seconds (map (λ t. t .0) ts) ≡ ts
 seconds-again [] = refl

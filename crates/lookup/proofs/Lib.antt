@@ -9,5 +9,6 @@ pub mod LookedUp
 pub mod Numbers
 pub mod OneOutcome
 pub mod Places
+pub mod RowsRead
 pub mod TableFormed
 pub mod Turns
