@@ -8,6 +8,7 @@ pub mod Laid
 pub mod LookedUp
 pub mod Numbers
 pub mod OneOutcome
+pub mod OnlyTable
 pub mod Places
 pub mod RowsRead
 pub mod TableFormed
