@@ -3,7 +3,7 @@
 use mathlib.Core.Path.{_≡_, refl, sym, _∙_, ap, ap₂}
 use mathlib.Core.List.{List, [], _∷_, _++_, map, append-nil, append-assoc, List·Memᴰ, List·Memᴰ·head, List·Memᴰ·tail}
 use Prim.Native.Nat.{ℕ, zero, suc, _+_, _*_, _-_, _≤_, _<_}
-use native.Mathlib.Nat.{not-suc-le-zero, le-of-suc-le-suc}
+use native.Mathlib.Nat.{zero-add, suc-add, not-suc-le-zero, le-of-suc-le-suc}
 use native.Mathlib.Omega.{arith}
 use lib.ListN.{length, getD, take, drop, replicate, length-append, length-replicate}
 use lib.Seq.{take-at, drop-append-add}
@@ -15,7 +15,8 @@ use Rattle.model.proofs.Entries.{length-entries, entries-front}
 use Rattle.codec.specs.Packing.{bits, recut}
 use Rattle.codec.specs.Layout.{byteWidths}
 use Rattle.codec.specs.Rows.{tableWidths, tableRow}
-use Rattle.codec.proofs.Packing.{Within, recut-back, length-recut}
+use Rattle.codec.proofs.Packing.{Within, recut-back, recut-within, length-recut}
+use Rattle.codec.proofs.RoundTrip.{Bytes}
 use Rattle.choose.specs.Choice.{padded}
 use Rattle.table.specs.Table.{tableBytes}
 use Rattle.table.proofs.Best.{need-small}
@@ -64,6 +65,10 @@ module _ (js : List Job) (v : ValidJobs js) (few : length js ≤ 8) (ts : List S
       at : (i : ℕ) → getD ts i (seconds 0) .0 ≤ 3600
       at = period-to (seconds 1) js ts v h
 
+  row-within : Within (byteWidths 16) (tableRow (need js ts) ts)
+  unfolding tableRow
+  row-within = recut-within tableWidths (byteWidths 16) (fieldsFor js ts) row-bits fields-within
+
   row-back : recut (byteWidths 16) tableWidths (tableRow (need js ts) ts) ≡ fieldsFor js ts
   unfolding tableRow
   row-back = recut-back tableWidths (byteWidths 16) (fieldsFor js ts) row-bits fields-within
@@ -85,6 +90,12 @@ member-row (List·Memᴰ·head e) = (0, omega arith, sym e)
 member-row (List·Memᴰ·tail m) =
     let r = member-row m in
     (suc (r .0), omega (arith, r .1), r .2)
+
+within-append : (k m : ℕ) (xs ys : List ℕ) → Within (byteWidths k) xs → Within (byteWidths m) ys → Within (byteWidths (k + m)) (xs ++ ys)
+within-append zero m [] ys h g = rw (zero-add m) g
+within-append zero m (x ∷ xs) ys h g = absurd h
+within-append (suc k) m [] ys h g = absurd h
+within-append (suc k) m (x ∷ xs) ys h g = rw (suc-add k m) (h .0, within-append k m xs ys (h .1) g)
 
 -- the sixteen bytes at a row's place, whatever stands behind the table
 row-there : (js : List Job) (rows : List (List Seconds)) (rest : List ℕ) (k : ℕ) → k < length rows → take 16 (drop (16 * k) (tableBytes js rows ++ rest)) ≡ tableRow (need js (getD rows k [])) (getD rows k [])
@@ -111,6 +122,16 @@ laid-alone js rows = record { rest = []; is = sym (append-nil (tableBytes js row
 
 abbrev pub AllPermitted : List Job → List (List Seconds) → Type 0
 AllPermitted js rows = (ts : List Seconds) → List·Memᴰ ts rows → Permitted js ts
+
+-- each of a table's bytes is one
+pub table-is-bytes : (js : List Job) → ValidJobs js → length js ≤ 8 → (rows : List (List Seconds)) → AllPermitted js rows → Bytes (tableBytes js rows)
+unfolding tableBytes
+table-is-bytes js v few [] all = tt
+table-is-bytes js v few (ts ∷ rows) all =
+    let R = tableRow (need js ts) ts in
+    let row : Within (byteWidths 16) R = row-within js v few ts (all ts (List·Memᴰ·head refl)) in
+    let rest = table-is-bytes js v few rows (λ us m. all us (List·Memᴰ·tail m)) in
+    rw (length-append R (tableBytes js rows), length-table-row js ts) (within-append 16 (length (tableBytes js rows)) R (tableBytes js rows) row rest)
 
 -- what is read at a row's place
 module _ (js : List Job) (v : ValidJobs js) (few : length js ≤ 8) {rows : List (List Seconds)} (all : AllPermitted js rows) {bytes : List ℕ} (l : Laid js rows bytes) (k : ℕ) (less : k < length rows) where

@@ -2,6 +2,7 @@ pub mod Chain
 pub mod Cutting
 pub mod Finding
 pub mod Formed
+pub mod HandedBack
 pub mod InOrder
 pub mod Judging
 pub mod Laid
