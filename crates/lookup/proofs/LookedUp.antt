@@ -49,7 +49,7 @@ module _ (p : Profile) (v : Valid p) {bytes : List ℕ} (w : WellFormed p bytes)
   unfolding refuseIf
   below-refused less = formed-verdict p bytes b v w ∙ ap (λ (t : Bool). refuseIf t (Budget (startAt bytes 0)) Sound) (lt-ltb (b .0) (startAt bytes 0 .0) less)
 
-  pub from-first-sound : startAt bytes 0 .0 ≤ b .0 → lookupVerdict p bytes b ≡ Sound
+  from-first-sound : startAt bytes 0 .0 ≤ b .0 → lookupVerdict p bytes b ≡ Sound
   unfolding refuseIf
   from-first-sound enough = formed-verdict p bytes b v w ∙ ap (λ (t : Bool). refuseIf t (Budget (startAt bytes 0)) Sound) (le-ltb (b .0) (startAt bytes 0 .0) enough)
 
@@ -101,7 +101,7 @@ module _ (p : Profile) (v : Valid p) {rows : List (List Seconds)} (t : TableOf (
   outcome-looked-up : {c : Choice} → Outcome (jobsOf p) b c → LooksUpAs p (tableBytes (jobsOf p) rows) b c
   outcome-looked-up (given best) = best-looked-up best
   outcome-looked-up (none-permitted no-list) = absurd (no-list _ (first .enough .1))
-  outcome-looked-up (none-fit {m = m} l unfit) =
+  outcome-looked-up (none-fit l unfit) =
       let below : b .0 < startAt (tableBytes (jobsOf p) rows) 0 .0 = too-small (decLe (need (jobsOf p) (getD rows 0 []) .0) (b .0)) in
       record {
         verdict = below-refused p v formed b below ∙ ap Budget (first-there ∙ one-least-budget first l);
