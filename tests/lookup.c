@@ -66,15 +66,9 @@ static int as_chosen(uint32_t budget)
  * between those beside it, and of equal loss where whole pages tie. */
 static void insert(void)
 {
-    uint32_t list[8] = {0}, before = 1;
-    for (uint32_t i = 0; i < l.n; i++) {
-        uint32_t least = (l.jobs[5 * i] + before - 1) / before, most = l.jobs[5 * i + 1] / before;
-        if (most < least)
-            return;
-        before = list[i] = before * (least + below(most - least + 1));
-    }
+    uint32_t list[8];
     uint64_t scores[2], periods[8], row = 0;
-    if (l.length > MOST - 16 || reference_score(l.n, l.jobs, list, scores) != 0)
+    if (!draw_periods(l.n, l.jobs, list) || l.length > MOST - 16 || reference_score(l.n, l.jobs, list, scores) != 0)
         return;
     for (int i = 0; i < 8; i++)
         periods[i] = list[i];

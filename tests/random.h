@@ -74,6 +74,20 @@ static uint32_t draw_profile(uint32_t jobs[40])
     return n;
 }
 
+/* Periods for a valid profile, each a multiple of the one before and none too short, zeros beyond n; whether they are permitted. */
+static inline int draw_periods(uint32_t n, const uint32_t jobs[40], uint32_t periods[8])
+{
+    uint32_t before = 1;
+    int permitted = 1;
+    memset(periods, 0, 8 * sizeof *periods);
+    for (uint32_t i = 0; i < n; i++) {
+        uint32_t least = (jobs[5 * i] + before - 1) / before, most = jobs[5 * i + 1] / before;
+        permitted = permitted && least <= most;
+        before = periods[i] = before * (least + (least < most ? below(most - least + 1) : 0));
+    }
+    return permitted;
+}
+
 /* A value that sits at the edge of some bound, or anywhere. */
 static uint32_t draw_edge(void)
 {

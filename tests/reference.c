@@ -23,6 +23,70 @@ uint64_t reference_judge(uint32_t n, const uint32_t jobs[40])
     return 0;
 }
 
+/* A field of some bits, most significant first, from bit `at` of bytes that are zeros there on; the bit after it. */
+static int put_field(uint8_t *bytes, int at, int width, uint64_t value)
+{
+    for (int end = at + width; at < end; at++)
+        if (value >> (end - 1 - at) & 1)
+            bytes[at / 8] |= (uint8_t)(0x80 >> at % 8);
+    return at;
+}
+
+/* The field of some bits from bit `at` on. */
+static uint32_t get_field(const uint8_t *bytes, int at, int width)
+{
+    uint32_t value = 0;
+    for (int end = at + width; at < end; at++)
+        value = value << 1 | (bytes[at / 8] >> (7 - at % 8) & 1);
+    return value;
+}
+
+/* lo, hi, data, metadata, stiffness, spare. */
+static const int record_widths[6] = {12, 12, 15, 15, 6, 4};
+
+uint64_t reference_read(const uint8_t *profile, uint64_t length, uint32_t values[41])
+{
+    uint32_t fields[41] = {0};
+    if (length == 0)
+        return refusal(1, 0);
+    if (get_field(profile, 0, 4) != 1)
+        return refusal(2, 0);
+    uint32_t n = fields[0] = get_field(profile, 4, 4);
+    if (n == 0 || n > 8)
+        return refusal(3, 0);
+    if (length != 1 + 8 * n)
+        return refusal(4, 0);
+    for (uint32_t i = 0; i < n; i++) {
+        uint32_t record[6];
+        for (int k = 0, at = 8 + 64 * (int)i; k < 6; at += record_widths[k++])
+            record[k] = get_field(profile, at, record_widths[k]);
+        if (record[LO] == 0 || record[HI] < record[LO] || record[HI] > 3600)
+            return refusal(5, i + 1);
+        if (record[STIFFNESS] < 1 || record[STIFFNESS] > 32)
+            return refusal(6, i + 1);
+        if (record[5] != 0)
+            return refusal(7, i + 1);
+        memcpy(fields + 1 + 5 * i, record, 5 * sizeof *record);
+    }
+    memcpy(values, fields, sizeof fields);
+    return 0;
+}
+
+uint64_t reference_write(uint32_t n, const uint32_t jobs[40], uint8_t *room, uint64_t length)
+{
+    uint64_t verdict = reference_judge(n, jobs), bytes = 1 + 8 * (uint64_t)n;
+    if (verdict != 0)
+        return verdict;
+    if (length < bytes)
+        return refusal(11, bytes);
+    memset(room, 0, bytes);
+    int at = put_field(room, put_field(room, 0, 4, 1), 4, n);
+    for (uint32_t i = 0; i < n; i++)
+        for (int k = 0; k < 6; k++)
+            at = put_field(room, at, record_widths[k], k < 5 ? jobs[5 * i + k] : 0);
+    return bytes;
+}
+
 struct plan {
     uint64_t loss, need, periods[8];
 };
@@ -151,14 +215,6 @@ static int in_order(const void *a, const void *b)
     return 0;
 }
 
-/* A field of some bits, most significant first, from bit `at` of a row of zeros on; the bit after it. */
-static int put_field(uint8_t row[16], int at, int width, uint64_t value)
-{
-    for (int end = at + width; at < end; at++)
-        if (value >> (end - 1 - at) & 1)
-            row[at / 8] |= (uint8_t)(0x80 >> at % 8);
-    return at;
-}
 
 /* What is answered where so many rows are to be written, and nothing is wrong with the profile. */
 static uint64_t answer_rows(const struct search *s, uint64_t rows, uint64_t length)
@@ -255,15 +311,6 @@ uint64_t reference_table(uint32_t n, const uint32_t jobs[40], uint8_t *room, uin
         }
     free(s.plans);
     return result;
-}
-
-/* The field of some bits from bit `at` of a row on. */
-static uint32_t get_field(const uint8_t row[16], int at, int width)
-{
-    uint32_t value = 0;
-    for (int end = at + width; at < end; at++)
-        value = value << 1 | (row[at / 8] >> (7 - at % 8) & 1);
-    return value;
 }
 
 /* The first job, from 1, whose period is outside its interval or no multiple of the one before; 0 where there is none. */

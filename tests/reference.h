@@ -4,6 +4,10 @@
 
 #include <stdint.h>
 
+/* As in charopleth.h. */
+uint64_t reference_read(const uint8_t *profile, uint64_t length, uint32_t values[41]);
+uint64_t reference_write(uint32_t n, const uint32_t jobs[40], uint8_t *room, uint64_t length);
+
 /* As in charopleth.h; but where more than `most` parts of lists would be visited it gives up and answers REFERENCE_LONG. */
 #define REFERENCE_LONG UINT64_MAX
 uint64_t reference_choose(uint32_t n, const uint32_t jobs[40], uint32_t budget, uint64_t answer[10], uint64_t most);
