@@ -1,0 +1,144 @@
+"""Document 01's rules a second time, with exact fractions and strings of bits, by plain enumeration.
+
+They share nothing with the crates, so that what is stored as right is no copy of what a program happened to write.
+"""
+from fractions import Fraction
+from math import ceil
+
+WIDTHS = (12, 12, 15, 15, 6, 4)
+A = [(20, 25, 9, 1, 1), (43, 74, 18, 2, 1), (45, 100, 36, 4, 1)]
+
+
+def packed(jobs, edition=1):
+    bits = f"{edition:04b}{len(jobs):04b}"
+    for job in jobs:
+        bits += "".join(f"{field:0{width}b}" for field, width in zip((*job, 0), WIDTHS))
+    return bytes(int(bits[i:i + 8], 2) for i in range(0, len(bits), 8))
+
+
+def judged_job(job, number, values=True, spare=0):
+    lo, hi, d, g, w = job
+    if lo == 0 or hi < lo or hi > 3600:
+        return (5, number)
+    if not 1 <= w <= 32:
+        return (6, number)
+    if values:
+        return (8, number) if max(d, g) > 32767 else None
+    return (7, number) if spare else None
+
+
+def judged_values(n, jobs):
+    if not 1 <= n <= 8:
+        return (3, 0)
+    return next((v for k in range(n) if (v := judged_job(jobs[k], k + 1))), None)
+
+
+def unpacked(data):
+    """The verdict and the jobs of a profile's bytes."""
+    if not data:
+        return (1, 0), []
+    bits = "".join(f"{byte:08b}" for byte in data)
+    n = int(bits[4:8], 2)
+    if int(bits[:4], 2) != 1:
+        return (2, 0), []
+    if not 1 <= n <= 8:
+        return (3, 0), []
+    if len(data) != 1 + 8 * n:
+        return (4, 0), []
+    jobs, at = [], 8
+    for k in range(n):
+        fields = []
+        for width in WIDTHS:
+            fields.append(int(bits[at:at + width], 2))
+            at += width
+        verdict = judged_job(fields[:5], k + 1, False, fields[5])
+        if verdict:
+            return verdict, []
+        jobs.append(tuple(fields[:5]))
+    return None, jobs
+
+
+def scored(jobs, periods):
+    verdict = judged_values(len(jobs), jobs)
+    if verdict:
+        return verdict, 0, 0
+    before = 1
+    for k, (job, t) in enumerate(zip(jobs, periods)):
+        if not job[0] <= t <= job[1] or t % before:
+            return (13, k + 1), 0, 0
+        before = t
+    need = ceil(sum(Fraction(3600 * (d + g), t) for (_, _, d, g, _), t in zip(jobs, periods)))
+    loss = sum(w * (3600 * (d + g) // lo - 3600 * (d + g) // t) ** 2 for (lo, _, d, g, w), t in zip(jobs, periods))
+    return None, need, loss
+
+
+def permitted(jobs, before=1):
+    """All permitted lists, in the order of the lists."""
+    if not jobs:
+        yield ()
+        return
+    for t in range(jobs[0][0], jobs[0][1] + 1):
+        if t % before == 0:
+            yield from ((t, *rest) for rest in permitted(jobs[1:], t))
+
+
+def plans(jobs):
+    """All permitted lists behind their losses and needs, the best first."""
+    return sorted((loss, need, ts) for ts in permitted(jobs) for _, need, loss in [scored(jobs, ts)])
+
+
+def chosen(jobs, budget):
+    every = plans(jobs)
+    if not every:
+        return (9, 0), (0, 0), ()
+    fitting = [plan for plan in every if plan[1] <= budget]
+    if not fitting:
+        return (10, min(need for _, need, _ in every)), (0, 0), ()
+    loss, need, ts = fitting[0]
+    return None, (need, loss), ts
+
+
+def zone_rows(jobs):
+    """The rows of the zones: permitted lists grouped by their multipliers."""
+    zones = {}
+    for ts in permitted(jobs):
+        zones.setdefault(tuple(t // ts[0] for t in ts), []).append(ts[0])
+    rows = b""
+    for multipliers, firsts in sorted(zones.items()):
+        assert firsts == list(range(firsts[0], firsts[-1] + 1))
+        fields = (firsts[0], firsts[-1], *multipliers[1:], *(0,) * (8 - len(multipliers)))
+        rows += int("".join(f"{field:012b}" for field in fields) + "0" * 20, 2).to_bytes(16, "big")
+    return rows
+
+
+def ladder(jobs):
+    """The need, loss and periods of each different answer, in rising need."""
+    rows = []
+    for loss, need, ts in plans(jobs):
+        if not rows or need < rows[-1][0]:
+            rows.append((need, loss, ts))
+    return rows[::-1]
+
+
+def table_rows(jobs):
+    """The rows of the table."""
+    fields = (f"{need:032b}" + "".join(f"{t:012b}" for t in (*ts, *(0,) * (8 - len(ts)))) for need, _, ts in ladder(jobs))
+    return b"".join(int(bits, 2).to_bytes(16, "big") for bits in fields)
+
+
+def listing(data, most=4096):
+    """The ladder program's text for a profile's bytes."""
+    verdict, jobs = unpacked(data)
+    rows = ladder(jobs) if not verdict else []
+    if not verdict and not rows:
+        verdict = (9, 0)
+    if not verdict and len(rows) > most:
+        verdict = (11, len(rows))
+    if verdict:
+        return told(verdict) + "\n"
+    lines = [f"jobs {len(jobs)} rows {len(rows)}", *(" ".join(map(str, (need, loss, *ts))) for need, loss, ts in rows)]
+    return "\n".join(lines) + "\n"
+
+
+def told(verdict):
+    return "refused {} {}".format(*verdict) if verdict else "sound"
