@@ -1,10 +1,10 @@
 // Runs the numbers of document 01, and a bad input for each refusal, and prints what comes out. The file stdout beside src/ is what must come out.
 use libc::STDOUT_FILENO;
-use model::Job;
-use model::PagesPerHour;
-use model::Profile;
-use model::Seconds;
-use model::Verdict;
+use planner::Job;
+use planner::PagesPerHour;
+use planner::Profile;
+use planner::Seconds;
+use planner::Verdict;
 ghost use mathlib.Core.Path.{_≡_};
 ghost use lib.ListN.{length};
 
@@ -23,7 +23,7 @@ fn main() {
 // Profile A's 25 bytes, read and written back.
 fn both_ways() {
     say(b"A\n");
-    let r = codec::read_profile(&profile_a());
+    let r = planner::read_profile(&profile_a());
     let v = r.verdict;
     show(v);
     let p = r.profile;
@@ -35,7 +35,7 @@ fn both_ways() {
 // A profile's bytes at the front of a longer buffer.
 fn show_written(p: Profile) {
     let mut out = [0xEEu8; 28];
-    let w = codec::write_profile(p, &mut out);
+    let w = planner::write_profile(p, &mut out);
     let v = w.verdict;
     show(v);
     number(w.count);
@@ -46,7 +46,7 @@ fn show_written(p: Profile) {
 // A profile's bytes in a buffer that is a byte too short for A.
 fn show_room(p: Profile) {
     let mut out = [0xEEu8; 24];
-    let w = codec::write_profile(p, &mut out);
+    let w = planner::write_profile(p, &mut out);
     let v = w.verdict;
     show(v);
     show_bytes(&out);
@@ -56,7 +56,7 @@ fn show_room(p: Profile) {
 // A's first row, P8, P9 and the case with no pages.
 fn needs() {
     say(b"needs\n");
-    let r = codec::read_profile(&profile_a());
+    let r = planner::read_profile(&profile_a());
     let a = r.profile;
     show_score(a, three(25, 50, 100));
     show_score(a, three(20, 60, 60));
@@ -83,26 +83,26 @@ fn bad_bytes() {
 // 3, 5, 6 and 8, by values. In the last but one, 5, 6 and 8 hold at once, and 5 comes first; in the last, all beyond n.
 fn bad_values() {
     say(b"bad values\n");
-    show(model::judge(counted(0, job(7, 7, 1))));
-    show(model::judge(counted(9, job(7, 7, 1))));
-    show(model::judge(counted(8, job(7, 7, 1))));
-    show(model::judge(one(job(0, 7, 1))));
-    show(model::judge(one(job(8, 7, 1))));
-    show(model::judge(one(job(7, 3601, 1))));
-    show(model::judge(one(weighed(0))));
-    show(model::judge(one(weighed(33))));
-    show(model::judge(one(job(7, 7, 32768))));
-    show(model::judge(one(all_bad())));
+    show_values(counted(0, job(7, 7, 1)));
+    show_values(counted(9, job(7, 7, 1)));
+    show_values(counted(8, job(7, 7, 1)));
+    show_values(one(job(0, 7, 1)));
+    show_values(one(job(8, 7, 1)));
+    show_values(one(job(7, 3601, 1)));
+    show_values(one(weighed(0)));
+    show_values(one(weighed(33)));
+    show_values(one(job(7, 7, 32768)));
+    show_values(one(all_bad()));
     let mut p = one(job(7, 7, 1));
     let bad = all_bad();
     p.jobs[1] = bad;
-    show(model::judge(p));
+    show_values(p);
 }
 
 // 13, by the first period outside its interval or no multiple of the one before.
 fn bad_periods() {
     say(b"bad periods\n");
-    let r = codec::read_profile(&profile_a());
+    let r = planner::read_profile(&profile_a());
     let a = r.profile;
     show_score(a, three(19, 60, 60));
     show_score(a, three(25, 75, 75));
@@ -114,7 +114,7 @@ fn bad_periods() {
 // P1 to P4, P6 to P8, P10 and the case with no pages.
 fn choices() {
     say(b"choices\n");
-    let r = codec::read_profile(&profile_a());
+    let r = planner::read_profile(&profile_a());
     let a = r.profile;
     show_choice(a, 4319);
     show_choice(a, 4320);
@@ -138,14 +138,14 @@ fn choices() {
 // P5, an example of five zones, P6 and P7's profiles, and A with no room.
 fn zones() {
     say(b"zones\n");
-    let r = codec::read_profile(&profile_a());
+    let r = planner::read_profile(&profile_a());
     let a = r.profile;
     show_zones(a);
     show_zones(spans(job(6, 10, 1), job(11, 22, 1), job(19, 40, 1)));
     show_zones(spans(job(1, 1, 1), job(2, 6, 1), job(35, 35, 1)));
     show_zones(spans(job(1, 1, 1), job(2, 4, 1), job(35, 35, 1)));
     let mut none = [0xEEu8; 15];
-    let c = zones::list_zones(a, &mut none);
+    let c = planner::list_zones(a, &mut none);
     let v = c.verdict;
     show(v);
     show_bytes(&none);
@@ -155,7 +155,7 @@ fn zones() {
 // A's table in room for nine rows and for eight, P10's, and one that has no row.
 fn tables() {
     say(b"tables\n");
-    let r = codec::read_profile(&profile_a());
+    let r = planner::read_profile(&profile_a());
     let a = r.profile;
     show_table(a);
     show_table_room(a);
@@ -166,10 +166,10 @@ fn tables() {
 // P1 to P4 through A's table.
 fn lookups() {
     say(b"lookups\n");
-    let r = codec::read_profile(&profile_a());
+    let r = planner::read_profile(&profile_a());
     let a = r.profile;
     let mut table = [0u8; 144];
-    table::build_table(a, &mut table);
+    planner::build_table(a, &mut table);
     show_lookup(a, &table, 4319);
     show_lookup(a, &table, 4320);
     show_lookup(a, &table, 5399);
@@ -279,7 +279,7 @@ fn show_part(bytes: &[u8], n: usize) {
 }
 
 fn show_read(bytes: &[u8]) {
-    let r = codec::read_profile(bytes);
+    let r = planner::read_profile(bytes);
     let v = r.verdict;
     show(v);
 }
@@ -297,8 +297,16 @@ fn show_whole(bytes: &[u8; 25]) {
     show_read(bytes);
 }
 
+// Whether a profile's values are taken, in room enough for any.
+fn show_values(p: Profile) {
+    let mut out = [0u8; 65];
+    let w = planner::write_profile(p, &mut out);
+    let v = w.verdict;
+    show(v);
+}
+
 fn show_score(p: Profile, ts: [Seconds; 8]) {
-    let r = score::score(p, ts);
+    let r = planner::score(p, ts);
     let v = r.verdict;
     show(v);
     number(r.need.0 as u64);
@@ -306,7 +314,7 @@ fn show_score(p: Profile, ts: [Seconds; 8]) {
 }
 
 fn show_choice(p: Profile, budget: u32) {
-    let c = choose::choose(p, PagesPerHour(budget));
+    let c = planner::choose(p, PagesPerHour(budget));
     let v = c.verdict;
     show(v);
     field(c.need.0);
@@ -332,7 +340,7 @@ fn show_period(t: Seconds) {
 // The zones, in a room for five and a byte more.
 fn show_zones(p: Profile) {
     let mut out = [0xEEu8; 81];
-    let c = zones::list_zones(p, &mut out);
+    let c = planner::list_zones(p, &mut out);
     let v = c.verdict;
     show(v);
     number(c.count);
@@ -343,7 +351,7 @@ fn show_zones(p: Profile) {
 // The budget table, in a room for nine rows and a byte more.
 fn show_table(p: Profile) {
     let mut out = [0xEEu8; 145];
-    let c = table::build_table(p, &mut out);
+    let c = planner::build_table(p, &mut out);
     let v = c.verdict;
     show(v);
     number(c.count);
@@ -354,7 +362,7 @@ fn show_table(p: Profile) {
 // The same in a room for eight.
 fn show_table_room(p: Profile) {
     let mut out = [0xEEu8; 128];
-    let c = table::build_table(p, &mut out);
+    let c = planner::build_table(p, &mut out);
     let v = c.verdict;
     show(v);
     show_bytes(&out);
@@ -363,9 +371,9 @@ fn show_table_room(p: Profile) {
 
 // What is told of a budget, and the row's bytes.
 fn show_lookup(p: Profile, table: &[u8; 144], budget: u32) {
-    let v = lookup::judge_lookup(p, table, PagesPerHour(budget));
+    let v = planner::judge_lookup(p, table, PagesPerHour(budget));
     show(v);
-    show_bytes(lookup::lookup(p, table, PagesPerHour(budget)));
+    show_bytes(planner::lookup(p, table, PagesPerHour(budget)));
     say(b"\n");
 }
 
@@ -400,13 +408,13 @@ fn show_byte(b: u8) {
 }
 
 fn show(v: Verdict) {
-    if model::number(v) == 0 {
+    if planner::number(v) == 0 {
         say(b"sound\n");
         return;
     }
     say(b"refused ");
-    field(model::number(v));
-    number(model::detail(v));
+    field(planner::number(v));
+    number(planner::detail(v));
 }
 
 fn field(x: u32) {

@@ -1,13 +1,27 @@
-// The planner as C sees it: include/charopleth.h declares these functions for C.
+// The planner: everything public in one place. Rattle's callers get the values and the operations under their own names,
+// C gets the functions that include/charopleth.h declares.
 //
-// specs/ForC.antt says how values, answers and verdicts look there. Nothing is assumed, and no public function has a
-// `requires`.
-use model::Counted;
-use model::Job;
-use model::PagesPerHour;
-use model::Profile;
-use model::Seconds;
-use model::Verdict;
+// Each operation's contract stands where it is made; docs/CONTRACTS.md lists them in reading order. specs/ForC.antt says
+// how values, answers and verdicts look to C. Nothing is assumed, and no public function has a `requires`.
+pub use choose::Choice;
+pub use choose::choose;
+pub use codec::Reading;
+pub use codec::read_profile;
+pub use codec::write_profile;
+pub use lookup::judge_lookup;
+pub use lookup::lookup;
+pub use model::Counted;
+pub use model::Job;
+pub use model::PagesPerHour;
+pub use model::Profile;
+pub use model::Seconds;
+pub use model::Verdict;
+pub use model::detail;
+pub use model::number;
+pub use score::Scored;
+pub use score::score;
+pub use table::build_table;
+pub use zones::list_zones;
 ghost use mathlib.Core.Path.{_≡_};
 ghost use Prim.Native.Nat.{_<_};
 ghost use lib.Seq.{sets};
