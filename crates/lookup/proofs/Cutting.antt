@@ -6,7 +6,7 @@ use Prim.Native.Nat.{ℕ, _+_, _*_, _/_, _%_, _^_, _<_}
 use native.Mathlib.Nat.{div-one, mod-lt}
 use native.Mathlib.Omega.{arith}
 use lib.Pow.{pow-pos, shr-lt, shr-shr, split, high, low, mod-pow-add}
-use lib.ListN.{length}
+use lib.ListN.{length, getD}
 use Rattle.codec.specs.Packing.{bits, unpack, recut}
 use Rattle.codec.specs.Rows.{tableWidths, wordsAt}
 use Rattle.codec.proofs.Rows.{row-words}
@@ -66,3 +66,7 @@ cut-words h l small =
 pub fields-of-words : (bytes : List ℕ) (k : ℕ) → k < length bytes / 16 → unpack tableWidths (wordsAt bytes k .high * 2 ^ 64 + wordsAt bytes k .low) ≡ rowFields bytes k
 unfolding rowFields recut
 fields-of-words bytes k h = ap (unpack tableWidths) (sym (row-words bytes k h))
+
+-- and its start is the upper half of the first
+pub start-of-words : (bytes : List ℕ) (k : ℕ) → k < length bytes / 16 → wordsAt bytes k .low < 2 ^ 64 → wordsAt bytes k .high / 2 ^ 32 ≡ getD (rowFields bytes k) 0 0
+start-of-words bytes k h small = ap (λ (l : List ℕ). getD l 0 0) (sym (cut-words (wordsAt bytes k .high) (wordsAt bytes k .low) small) ∙ fields-of-words bytes k h)

@@ -11,6 +11,7 @@ pub mod Numbers
 pub mod OneOutcome
 pub mod OnlyTable
 pub mod Places
+pub mod Rates
 pub mod RowsRead
 pub mod TableFormed
 pub mod Turns

@@ -13,15 +13,10 @@ use borrow.Author.Tests.{ltb-true, ltb-false, eqb-true, eqb-false, not-true, lt-
 use Rattle.model.specs.declared.Seconds.{Seconds}
 use Rattle.model.specs.declared.Job.{Job}
 use Rattle.model.specs.declared.Profile.{Profile}
-use Rattle.model.specs.declared.Verdict.the-variants.{Sound}
-use Rattle.model.specs.Model.{seconds, noJob, entries, jobsOf, periodsOf, Valid, Allowed, PermittedAfter, Permitted, need, loss}
+use Rattle.model.specs.Model.{seconds, noJob, entries, jobsOf, periodsOf, Allowed, PermittedAfter, Permitted}
 use Rattle.model.proofs.Entries.{entries-step, entries-end}
-use Rattle.model.proofs.Validity.{job-valid-at, valid-sound}
-use Rattle.model.proofs.Verdicts.{sound-passes, beside-sound}
-use Rattle.score.specs.declared.Scored.{Scored}
-use Rattle.score.specs.Scoring.{scoreVerdict, Scores}
-use Rattle.score.proofs.Permission.{permitted-sound}
 use Rattle.lookup.specs.Lookup.{allows, placeRight, placesRight}
+use Rattle.lookup.specs.Checks.{zerosFrom}
 
 pub both-true : (a : Bool) {b : Bool} → (a && b) ≡ true → (a ≡ true) × (b ≡ true)
 both-true true e = (refl, e)
@@ -31,7 +26,7 @@ pub both-hold : {a b : Bool} → a ≡ true → b ≡ true → (a && b) ≡ true
 both-hold f g = rw (f, g)
 
 -- one place
-allowed : (j : Job) (before t : Seconds) → allows j before t ≡ true → Allowed j before t
+pub allowed : (j : Job) (before t : Seconds) → allows j before t ≡ true → Allowed j before t
 unfolding allows
 allowed j before t e =
     let a = both-true (not (ltb (t .0) (j .lo .0))) e in
@@ -50,10 +45,6 @@ module _ (p : Profile) (i : ℕ) (before t : Seconds) where
   pub past-jobs : p .n ≤ i → placeRight p i before t ≡ eqb (t .0) 0
   unfolding placeRight
   past-jobs h = rw (le-ltb i (p .n) h)
-
-  -- a right period of a valid profile's job is no zero
-  pub right-from : Valid p → placeRight p i before t ≡ true → i < p .n → 1 ≤ t .0
-  right-from v e h = omega (arith, allowed _ before t (sym (of-job h) ∙ e) .above, job-valid-at p i v h .lo-from)
 
 -- m places from the i-th on, up to the eighth
 module _ (p : Profile) (ts : List Seconds) (few : p .n ≤ 8) where
@@ -105,6 +96,12 @@ module _ (p : Profile) (ts : List Seconds) (few : p .n ≤ 8) where
           let past = ltb-false i (p .n) f in
           both-hold (past-jobs p i before _ past ∙ eq-eqb _ 0 (z i past (omega arith))) (later (none-left (i + 1) _ (omega arith)))
 
+-- beyond the jobs the places are right where they are zeros
+pub beyond-jobs : (p : Profile) (ts : List Seconds) (m i : ℕ) (before : Seconds) → p .n ≤ i → placesRight p ts i before m ≡ zerosFrom ts i m
+unfolding placesRight zerosFrom
+beyond-jobs p ts zero i before h = refl
+beyond-jobs p ts (suc m) i before h = ap₂ _&&_ (past-jobs p i before (getD ts i (seconds 0)) h) (beyond-jobs p ts m (i + 1) (getD ts i (seconds 0)) (omega arith))
+
 module _ (p : Profile) (ts : List Seconds) (few : p .n ≤ 8) where
   pub places-permitted : placesRight p ts 0 (seconds 1) 8 ≡ true → Permitted (jobsOf p) (periodsOf p ts)
   unfolding Left
@@ -116,10 +113,3 @@ module _ (p : Profile) (ts : List Seconds) (few : p .n ≤ 8) where
   pub places-back : Permitted (jobsOf p) (periodsOf p ts) → ((j : ℕ) → p .n ≤ j → j < 8 → getD ts j (seconds 0) .0 ≡ 0) → placesRight p ts 0 (seconds 1) 8 ≡ true
   unfolding Left
   places-back h z = right-back p ts few 8 0 (seconds 1) refl (rw (sub-zero (p .n)) h) z
-
--- what scoring tells of right places
-pub right-scored : (p : Profile) (ts : List Seconds) {r : Scored} → Valid p → placesRight p ts 0 (seconds 1) 8 ≡ true → Scores p ts r → (r .need ≡ need (jobsOf p) (periodsOf p ts)) × (r .loss ≡ loss (jobsOf p) (periodsOf p ts))
-unfolding scoreVerdict
-right-scored p ts v h s =
-    let sound : Sound ≡ scoreVerdict p ts = sym (sound-passes _ refl (valid-sound p v) ∙ permitted-sound 0 (seconds 1) _ _ (places-permitted p ts (v .n-to) h)) in
-    (s .need ∙ sym (beside-sound _ _ sound), s .loss ∙ sym (beside-sound _ _ sound))

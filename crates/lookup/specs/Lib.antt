@@ -1,3 +1,4 @@
+pub mod Checks
 pub mod Cut
 pub mod Lookup
 pub mod Table

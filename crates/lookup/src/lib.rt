@@ -1,21 +1,25 @@
 // Looking a budget up in a table: the row that answers it, as the caller's own bytes, or why there is none.
 //
-// specs/Table.antt says when a table is well formed and which row answers, specs/Lookup.antt what is answered. Nothing
-// is assumed, and no public function has a `requires`.
+// specs/Table.antt says when a table is well formed and which row answers, specs/Lookup.antt what is answered;
+// specs/Cut.antt and specs/Checks.antt serve the private functions alone. Nothing is assumed, and no public function has
+// a `requires`.
 use model::Counted;
+use model::Job;
 use model::PagesPerHour;
 use model::Profile;
 use model::Seconds;
 use model::Verdict;
 ghost use mathlib.Core.Path.{_≡_};
-ghost use Prim.Native.Nat.{_+_, _*_, _^_, _≤_, _<_};
+ghost use Prim.Native.Nat.{_+_, _*_, _-_, _/_, _^_, _≤_, _<_};
 ghost use denote.Ref.{ptr};
 ghost use Rattle.codec.specs.Packing.{unpack};
 ghost use Rattle.codec.specs.Rows.{tableWidths};
-ghost use Rattle.model.specs.Model.{Valid};
-ghost use Rattle.lookup.specs.Table.{rowsIn};
-ghost use Rattle.lookup.specs.Lookup.{placeRight, follows, firstBad, lastWithin, LooksUp, Locates, Tells};
+ghost use Rattle.model.specs.Model.{pagesPerHour, cost, ValidJob, Valid, rate, jobLoss};
+ghost use Rattle.choose.specs.Steps.{needAt, NeedFits};
+ghost use Rattle.lookup.specs.Table.{rowsIn, startAt};
+ghost use Rattle.lookup.specs.Lookup.{allows, follows, firstBad, lastWithin, LooksUp, Locates, Tells};
 ghost use Rattle.lookup.specs.Cut.{rowOf, rowAt};
+ghost use Rattle.lookup.specs.Checks.{Fastest, zerosFrom};
 
 // A table row's start and its eight periods.
 struct TableRow {
@@ -72,8 +76,7 @@ pub fn judge_lookup(p: Profile, table: &[u8], budget: PagesPerHour) -> Verdict
     if 0 < bad {
         return Verdict::Row(bad as u64);
     }
-    let first = row_at(table, 0);
-    let start = first.start;
+    let start = start_at(table, 0);
     if budget.0 < start.0 {
         return Verdict::Budget(start);
     }
@@ -81,10 +84,14 @@ pub fn judge_lookup(p: Profile, table: &[u8], budget: PagesPerHour) -> Verdict
 }
 
 // The first bad row, from 1, or 0 where every row is good: the label leaves both loops at the first broken rule.
+// `before` is the last of a row's first i periods; in that time they have `written` so many pages, and they have `lost` so
+// much. Carried along so, need and loss take two divisions for each job and one for the row.
 fn first_bad_row(p: Profile, table: &[u8]) -> usize
     requires { ⌜ Valid p ⌝ }
     ensures { λ r. ⌜ r ≡ firstBad p (now (table .entry)) 0 (rowsIn (now (table .entry))) ⌝ }
 {
+    let n = p.n as usize;
+    let fastest = fastest_rates(p);
     let rows = table.len() / 16;
     let mut start_before = PagesPerHour(0);
     let mut loss_before: u64 = 0;
@@ -97,38 +104,59 @@ fn first_bad_row(p: Profile, table: &[u8]) -> usize
         let start = row.start;
         let periods = row.periods;
         let mut before = Seconds(1);
+        let mut written: u64 = 0;
+        let mut lost: u64 = 0;
         let mut i: usize = 0;
-        while i < 8 {
+        while i < n {
+            let j = p.jobs[i];
             let t = periods[i];
-            if !place_right(p, i, before, t) {
+            if !allowed(j, before, t) {
                 break 'rows k + 1;
             }
+            let rate = fastest[i];
+            written = written_with(j, written, before, t);
+            lost += job_loss(j, rate, t);
             before = t;
             i += 1;
         }
-        let scored = score::score(p, periods);
-        if scored.need.0 != start.0 {
+        if !zeros_from(periods, i) {
             break 'rows k + 1;
         }
-        if !may_follow(k, start_before, loss_before, start, scored.loss) {
+        if need_of(written, before).0 != start.0 {
+            break 'rows k + 1;
+        }
+        if !may_follow(k, start_before, loss_before, start, lost) {
             break 'rows k + 1;
         }
         start_before = start;
-        loss_before = scored.loss;
+        loss_before = lost;
         k += 1;
     };
     bad
 }
 
-// Whether the period at place i of a row is right after the period `before`.
-fn place_right(p: Profile, i: usize, before: Seconds, t: Seconds) -> bool
-    requires { ⌜ Valid p × (i < 8) × (i < p .n → 1 ≤ before .0) ⌝ }
-    ensures { λ r. ⌜ r ≡ placeRight p i before t ⌝ }
+// The rates of the jobs at their shortest periods.
+fn fastest_rates(p: Profile) -> [PagesPerHour; 8]
+    requires { ⌜ Valid p ⌝ }
+    ensures { λ r. ⌜ Fastest p (p .n) r ⌝ }
 {
-    if (p.n as usize) <= i {
-        return t.0 == 0;
+    let n = p.n as usize;
+    let mut rates = [PagesPerHour(0); 8];
+    let mut k: usize = 0;
+    while k < n {
+        let j = p.jobs[k];
+        let rate = rate_at(j, j.lo);
+        rates[k] = rate;
+        k += 1;
     }
-    let j = p.jobs[i];
+    rates
+}
+
+// Whether a job allows a period after the period `before`.
+fn allowed(j: Job, before: Seconds, t: Seconds) -> bool
+    requires { ⌜ 1 ≤ before .0 ⌝ }
+    ensures { λ r. ⌜ r ≡ allows j before t ⌝ }
+{
     if t.0 < j.lo.0 {
         return false;
     }
@@ -136,6 +164,63 @@ fn place_right(p: Profile, i: usize, before: Seconds, t: Seconds) -> bool
         return false;
     }
     t.0 % before.0 == 0
+}
+
+// The pages that jobs write in t seconds, this job with them, where those before it have `written` so many in `before`.
+fn written_with(j: Job, written: u64, before: Seconds, t: Seconds) -> u64
+    requires { ⌜ ValidJob j × NeedFits written before × (t .0 ≤ 3600) ⌝ }
+    ensures { λ r. ⌜ r ≡ written * (t .0 / before .0) + cost j ⌝ }
+{
+    written * ((t.0 / before.0) as u64) + (run_pages(j) as u64)
+}
+
+// What a job loses at a period, against its rate at the shortest.
+fn job_loss(j: Job, fastest: PagesPerHour, t: Seconds) -> u64
+    requires { ⌜ ValidJob j × (j .lo .0 ≤ t .0) × (fastest ≡ rate j (j .lo)) ⌝ }
+    ensures { λ r. ⌜ r ≡ jobLoss j t ⌝ }
+{
+    let slower = (fastest.0 - rate_at(j, t).0) as u64;
+    (j.stiffness as u64) * (slower * slower)
+}
+
+// The rate of a job at a period, rounded down.
+fn rate_at(j: Job, t: Seconds) -> PagesPerHour
+    requires { ⌜ ValidJob j × (1 ≤ t .0) ⌝ }
+    ensures { λ r. ⌜ r ≡ rate j t ⌝ }
+{
+    PagesPerHour(3600 * run_pages(j) / t.0)
+}
+
+// The pages of one run.
+fn run_pages(j: Job) -> u32
+    requires { ⌜ ValidJob j ⌝ }
+    ensures { λ r. ⌜ r ≡ cost j ⌝ }
+{
+    j.data + j.metadata
+}
+
+// Whether the periods from place i on are zeros.
+fn zeros_from(periods: [Seconds; 8], i: usize) -> bool
+    ensures { λ r. ⌜ r ≡ zerosFrom periods i (8 - i) ⌝ }
+{
+    let mut k = i;
+    while k < 8 {
+        let t = periods[k];
+        if t.0 != 0 {
+            return false;
+        }
+        k += 1;
+    }
+    true
+}
+
+// The need of periods that write so many pages in t seconds.
+fn need_of(written: u64, t: Seconds) -> PagesPerHour
+    requires { ⌜ NeedFits written t ⌝ }
+    ensures { λ r. ⌜ r ≡ pagesPerHour (needAt written t) ⌝ }
+{
+    let span = t.0 as u64;
+    PagesPerHour(((3600 * written + (span - 1)) / span) as u32)
 }
 
 // Whether a row may follow the one before it: the first follows none.
@@ -163,13 +248,21 @@ fn last_within(table: &[u8], budget: PagesPerHour) -> usize
 {
     let mut k = table.len() / 16;
     while 0 < k {
-        let row = row_at(table, k - 1);
-        if row.start.0 <= budget.0 {
+        if start_at(table, k - 1).0 <= budget.0 {
             return k - 1;
         }
         k -= 1;
     }
     0
+}
+
+// The start of the k-th row of a table, counted from 0.
+fn start_at(table: &[u8], k: usize) -> PagesPerHour
+    requires { ⌜ k < rowsIn (now table) ⌝ }
+    ensures { λ r. ⌜ r ≡ startAt (now (table .entry)) k ⌝ }
+{
+    let words = codec::get_row(table, k);
+    PagesPerHour((words.high / 0x1_0000_0000) as u32)
 }
 
 // The k-th row of a table, counted from 0.

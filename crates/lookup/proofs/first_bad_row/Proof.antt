@@ -1,33 +1,51 @@
 -- `lookup::first_bad_row` meets its contract: before each turn the verdict is that of the rows, and of a row's places, still to come.
 -- Assumes nothing.
 use Prim.Native.Nat.{_-_}
-use mathlib.Core.Path.{refl, _∙_, sym}
+use mathlib.Core.Path.{_≡_, _∙_, sym}
+use mathlib.Core.Bool.{true}
 use native.Mathlib.Omega.{arith}
+use lib.ListN.{getD}
 use borrow.Author.Needs.{needs}
 use borrow.Author.Tests.{not-true, not-false}
-use Rattle.lookup.proofs.Judging.{bad-place, good-place, no-place}
-use Rattle.lookup.proofs.Places.{right-from}
-use Rattle.lookup.proofs.Turns.{RowsLeft, PlacesLeft, Scanned, first-rows, scanned-row, no-more, place-fails, start-fails, order-fails, next-row}
+use Rattle.model.specs.Model.{seconds, noJob, Valid}
+use Rattle.model.proofs.Validity.{job-valid-at}
+use Rattle.lookup.specs.Lookup.{allows}
+use Rattle.lookup.proofs.Places.{allowed}
+use Rattle.lookup.proofs.Turns.{RowsLeft, PlacesLeft, Scanned, first-rows, first-places, pages-fit, loss-fits, place-off, next-place, zeros-decide, scanned-row, no-more, place-fails, start-fails, order-fails, next-row}
 use Rattle.lookup.proofs.first_bad_row.Statement.{statement}
 use Rattle.lookup.proofs.first_bad_row.Tie as tie
 
 abbrev Inv-loop : tie.InvT-loop
-Inv-loop p table rows start-before loss-before k start periods before₀ i₀ before i = PlacesLeft p periods before i
+Inv-loop table p n fastest rows start-before loss-before k start periods before₀ written₀ lost₀ i₀ before written lost i = PlacesLeft p periods before written lost i
 
 abbrev μ-loop : tie.MeasureT-loop
-μ-loop p table rows start-before loss-before k start periods before₀ i₀ before i = 8 - i
+μ-loop table p n fastest rows start-before loss-before k start periods before₀ written₀ lost₀ i₀ before written lost i = n - i
 
 abbrev Inv-rows : tie.InvT-rows
-Inv-rows p table rows start-before₀ loss-before₀ k₀ start-before loss-before k = RowsLeft p table rows start-before loss-before k
+Inv-rows table p n fastest rows start-before₀ loss-before₀ k₀ start-before loss-before k = RowsLeft p table rows start-before loss-before k
 
 abbrev μ-rows : tie.MeasureT-rows
-μ-rows p table rows start-before₀ loss-before₀ k₀ start-before loss-before k = rows - k
+μ-rows table p n fastest rows start-before₀ loss-before₀ k₀ start-before loss-before k = rows - k
 
--- past the loop over a row's periods they are right, and scoring tells what they need and lose
-scanned : (c : tie.After-score Inv-loop μ-loop Inv-rows μ-rows) → Scanned (c .before .before .before .before .before .before .before .before .before .args .p) (c .before .before .before .before .before .before .before .before .before .args .table .now) (c .before .before .before .before .before .before .before .rows .k) (c .before .before .before .before .before .row-at .result) (c .score .result)
+valid : (c : tie.At-loop Inv-loop μ-loop Inv-rows μ-rows) → Valid (c .before .before .before .before .before .before .before .before .args .t1)
+valid c = c .before .before .before .before .before .before .before .before .pre
+
+-- a period that did not leave the loops is allowed
+passed : (c : tie.Else2 Inv-loop μ-loop Inv-rows μ-rows) → allows (getD (c .before .before .before .before .before .before .before .before .before .before .before .before .before .args .t1 .jobs) (c .before .before .before .before .before .loop .i) noJob) (c .before .before .before .before .before .loop .before) (getD (c .before .before .before .before .before .before .before .before .row-at .result .periods) (c .before .before .before .before .before .loop .i) (seconds 0)) ≡ true
+passed c = sym (c .before .allowed .ensures) ∙ not-false _ (c .if2 .left)
+
+-- past the loop over a row's periods and past the zeros, its need and its loss are known
+scanned : (c : tie.After-need-of Inv-loop μ-loop Inv-rows μ-rows) → Scanned (c .before .before .before .before .before .before .before .before .before .before .before .before .args .t1) (c .before .before .before .before .before .before .before .before .before .before .before .before .args .table .now) (c .before .before .before .before .before .before .before .before .before .rows .k) (c .before .before .before .before .before .before .before .row-at .result) (c .need-of .result) (c .before .before .before .before .loop .lost)
 scanned c =
-    let l = c .before .before .loop in
-    scanned-row (c .before .before .before .before .before .before .before .before .before .pre) (c .before .before .before .before .before .row-at .ensures) (l .inv .left ∙ no-place _ _ (l .before) (l .i) (c .before .loop-test .left)) (c .score .ensures)
+    let z = c .before .before in
+    let l = z .before .before in
+    rw (c .need-of .ensures) (scanned-row (valid l) (l .before .before .before .row-at .ensures) (l .loop .inv) (z .before .loop-test .left) (sym (z .zeros-from .ensures) ∙ not-false _ (c .before .if3 .left)))
+
+cast-n : tie.Need-cast-n Inv-loop μ-loop Inv-rows μ-rows
+cast-n c = search needs
+
+fastest-rates-requires : tie.Need-fastest-rates-requires Inv-loop μ-loop Inv-rows μ-rows
+fastest-rates-requires c κs = search needs
 
 rows-holds : tie.Need-rows-holds Inv-loop μ-loop Inv-rows μ-rows
 rows-holds c = first-rows _ _ _ _ _
@@ -36,21 +54,51 @@ row-at-requires : tie.Need-row-at-requires Inv-loop μ-loop Inv-rows μ-rows
 row-at-requires c κs = search needs
 
 loop-holds : tie.Need-loop-holds Inv-loop μ-loop Inv-rows μ-rows
-loop-holds c = record { upto = omega arith; from = λ h. omega arith; left = refl }
+loop-holds c = first-places _ _
+
+mul-j : tie.Need-mul-j Inv-loop μ-loop Inv-rows μ-rows
+mul-j c = search needs
+
+element-copy-out-j : tie.Need-element-copy-out-j Inv-loop μ-loop Inv-rows μ-rows
+element-copy-out-j c = omega (arith, valid (c .before) .n-to)
 
 mul-t : tie.Need-mul-t Inv-loop μ-loop Inv-rows μ-rows
 mul-t c = search needs
 
 array-copy-out-t : tie.Need-array-copy-out-t Inv-loop μ-loop Inv-rows μ-rows
-array-copy-out-t c = search needs
+array-copy-out-t c = omega (arith, valid (c .before .before) .n-to)
 
-place-right-requires : tie.Need-place-right-requires Inv-loop μ-loop Inv-rows μ-rows
-place-right-requires c κs =
-    let l = c .before .before in
-    (l .before .before .before .before .before .before .before .pre, c .before .loop-test .taken, l .loop .inv .from)
+allowed-requires : tie.Need-allowed-requires Inv-loop μ-loop Inv-rows μ-rows
+allowed-requires c κs = c .before .before .before .loop .inv .from
 
 add-bad : tie.Need-add-bad Inv-loop μ-loop Inv-rows μ-rows
 add-bad c = search needs
+
+mul-rate : tie.Need-mul-rate Inv-loop μ-loop Inv-rows μ-rows
+mul-rate c = search needs
+
+array-copy-out-rate : tie.Need-array-copy-out-rate Inv-loop μ-loop Inv-rows μ-rows
+array-copy-out-rate c = omega (arith, valid (c .before .before .before .before .before) .n-to)
+
+written-with-requires : tie.Need-written-with-requires Inv-loop μ-loop Inv-rows μ-rows
+written-with-requires c κs =
+    let i = c .before .before .before .before .before in
+    let l = i .before in
+    let j = job-valid-at _ (l .loop .i) (valid l) (i .loop-test .taken) in
+    (j, pages-fit (valid l) (l .loop .inv), omega (arith, allowed _ (l .loop .before) _ (passed (c .before)) .below, j .hi-to))
+
+job-loss-requires : tie.Need-job-loss-requires Inv-loop μ-loop Inv-rows μ-rows
+job-loss-requires c κs =
+    let e = c .before .before in
+    let i = e .before .before .before .before in
+    let l = i .before in
+    (job-valid-at _ (l .loop .i) (valid l) (i .loop-test .taken), allowed _ (l .loop .before) _ (passed e) .above, l .before .before .before .before .before .before .fastest-rates .ensures .at (l .loop .i) (i .loop-test .taken))
+
+add-lost : tie.Need-add-lost Inv-loop μ-loop Inv-rows μ-rows
+add-lost c =
+    let e = c .before .before .before in
+    let i = e .before .before .before .before in
+    omega (arith, loss-fits (valid (i .before)) (i .before .loop .inv) (i .loop-test .taken) (passed e), c .job-loss .ensures)
 
 add-i : tie.Need-add-i Inv-loop μ-loop Inv-rows μ-rows
 add-i c = search needs
@@ -60,26 +108,29 @@ loop-less c = search needs
 
 loop-again : tie.Need-loop-again Inv-loop μ-loop Inv-rows μ-rows
 loop-again c =
-    let i = c .before .before .before in
-    let l = i .before .loop in
-    let good = sym (c .before .place-right .ensures) ∙ not-false _ (c .if2 .left) in
-    record {
-      upto = omega arith;
-      from = λ h. right-from _ (l .i) _ _ (i .before .before .before .before .before .before .before .before .pre) good (omega arith);
-      left = l .inv .left ∙ good-place _ _ (l .before) (l .i) (i .loop-test .taken) good;
-    }
+    let e = c .before .before .before in
+    let i = e .before .before .before .before in
+    rw (c .before .written-with .ensures, c .job-loss .ensures) (next-place (valid (i .before)) (i .before .loop .inv) (i .loop-test .taken) (passed e))
 
-score-requires : tie.Need-score-requires Inv-loop μ-loop Inv-rows μ-rows
-score-requires c κs = search needs
+zeros-from-requires : tie.Need-zeros-from-requires Inv-loop μ-loop Inv-rows μ-rows
+zeros-from-requires c κs = search needs
 
 add-bad-2 : tie.Need-add-bad-2 Inv-loop μ-loop Inv-rows μ-rows
 add-bad-2 c = search needs
 
-may-follow-requires : tie.Need-may-follow-requires Inv-loop μ-loop Inv-rows μ-rows
-may-follow-requires c κs = search needs
+need-of-requires : tie.Need-need-of-requires Inv-loop μ-loop Inv-rows μ-rows
+need-of-requires c κs =
+    let l = c .before .before .before in
+    pages-fit (valid l) (l .loop .inv)
 
 add-bad-3 : tie.Need-add-bad-3 Inv-loop μ-loop Inv-rows μ-rows
 add-bad-3 c = search needs
+
+may-follow-requires : tie.Need-may-follow-requires Inv-loop μ-loop Inv-rows μ-rows
+may-follow-requires c κs = search needs
+
+add-bad-4 : tie.Need-add-bad-4 Inv-loop μ-loop Inv-rows μ-rows
+add-bad-4 c = search needs
 
 add-k : tie.Need-add-k Inv-loop μ-loop Inv-rows μ-rows
 add-k c = search needs
@@ -90,30 +141,37 @@ rows-less c = search needs
 rows-again : tie.Need-rows-again Inv-loop μ-loop Inv-rows μ-rows
 rows-again c =
     let s = c .before .before .before .before .before in
-    let r = s .before .before .before .before .before .before in
-    next-row (r .before .rows .inv) (r .if1 .left) (scanned s) (c .before .before .if3 .left) (c .before .may-follow .ensures) (c .if4 .left)
+    let r = s .before .before .before .before .before .before .before .before in
+    next-row (r .before .rows .inv) (r .if1 .left) (scanned s) (c .before .before .if4 .left) (c .before .may-follow .ensures) (c .if5 .left)
 
 returns : tie.Need-returns Inv-loop μ-loop Inv-rows μ-rows
 returns c = no-more (c .before .rows .inv) (c .if1 .taken)
 
 returns-2 : tie.Need-returns-2 Inv-loop μ-loop Inv-rows μ-rows
 returns-2 c =
-    let i = c .before .before .before in
-    let l = i .before .loop in
-    let r = i .before .before .before .before in
-    place-fails (r .before .before .rows .inv) (r .before .if1 .left) (r .row-at .ensures) (l .inv .left ∙ bad-place _ _ (l .before) (l .i) (i .loop-test .taken) (sym (c .before .place-right .ensures) ∙ not-true _ (c .if2 .taken)))
+    let i = c .before .before .before .before in
+    let l = i .before in
+    let r = l .before .before .before in
+    place-fails (r .before .before .rows .inv) (r .before .if1 .left) (r .row-at .ensures) (place-off (valid l) (l .loop .inv) (i .loop-test .taken) (sym (c .before .allowed .ensures) ∙ not-true _ (c .if2 .taken)))
 
 returns-3 : tie.Need-returns-3 Inv-loop μ-loop Inv-rows μ-rows
 returns-3 c =
-    let s = c .before .before .before in
-    let r = s .before .before .before .before .before .before in
-    start-fails (r .before .rows .inv) (r .if1 .left) (scanned s) (c .if3 .taken)
+    let z = c .before in
+    let l = z .before .before in
+    let r = l .before .before .before in
+    place-fails (r .before .before .rows .inv) (r .before .if1 .left) (r .row-at .ensures) (zeros-decide (l .loop .inv) (z .before .loop-test .left) ∙ sym (z .zeros-from .ensures) ∙ not-true _ (c .if3 .taken))
 
 returns-4 : tie.Need-returns-4 Inv-loop μ-loop Inv-rows μ-rows
 returns-4 c =
+    let s = c .before .before .before in
+    let r = s .before .before .before .before .before .before .before .before in
+    start-fails (r .before .rows .inv) (r .if1 .left) (scanned s) (c .if4 .taken)
+
+returns-5 : tie.Need-returns-5 Inv-loop μ-loop Inv-rows μ-rows
+returns-5 c =
     let s = c .before .before .before .before .before in
-    let r = s .before .before .before .before .before .before in
-    order-fails (r .before .rows .inv) (r .if1 .left) (scanned s) (c .before .before .if3 .left) (c .before .may-follow .ensures) (c .if4 .taken)
+    let r = s .before .before .before .before .before .before .before .before in
+    order-fails (r .before .rows .inv) (r .if1 .left) (scanned s) (c .before .before .if4 .left) (c .before .may-follow .ensures) (c .if5 .taken)
 
 pub first-bad-row-spec : {M : Type 1} → statement M
 first-bad-row-spec =
@@ -123,24 +181,36 @@ first-bad-row-spec =
     μ-loop
     Inv-rows
     μ-rows
+    cast-n
+    fastest-rates-requires
     rows-holds
     row-at-requires
     loop-holds
+    mul-j
+    element-copy-out-j
     mul-t
     array-copy-out-t
-    place-right-requires
+    allowed-requires
     add-bad
+    mul-rate
+    array-copy-out-rate
+    written-with-requires
+    job-loss-requires
+    add-lost
     add-i
     loop-less
     loop-again
-    score-requires
+    zeros-from-requires
     add-bad-2
-    may-follow-requires
+    need-of-requires
     add-bad-3
+    may-follow-requires
+    add-bad-4
     add-k
     rows-less
     rows-again
     returns
     returns-2
     returns-3
-    returns-4)
+    returns-4
+    returns-5)

@@ -7,7 +7,6 @@ use Rattle.model.specs.declared.PagesPerHour.{PagesPerHour}
 use Rattle.model.specs.declared.Verdict.the-variants.{Budget, Row}
 use Rattle.model.proofs.Validity.{sound-valid}
 use Rattle.model.proofs.Verdicts.{refused-stays, sound-passes}
-use Rattle.lookup.specs.declared.TableRow.{TableRow}
 use Rattle.lookup.specs.Table.{rowsIn}
 use Rattle.lookup.specs.Lookup.{firstBad, tableVerdict, lookupVerdict}
 use Rattle.lookup.proofs.Chain.{Whole, no-bytes, part-left, bad-named, below-first, row-there}
@@ -51,20 +50,19 @@ returns-4 c =
     let e = c .before .first-bad-row .ensures in
     ap Row e ∙ bad-named _ _ _ (whole (c .before .before)) (subst (λ (n : ℕ). 0 < n) e (c .if3 .taken)) ∙ sym (decided (c .before .before .before .before))
 
-row-at-requires : tie.Need-row-at-requires
-row-at-requires c κs = search needs
+start-at-requires : tie.Need-start-at-requires
+start-at-requires c κs = search needs
 
 returns-5 : tie.Need-returns-5
 returns-5 c =
-    let r = c .before .before .before .before in
-    let e = ap (λ (x : TableRow). x .start) (r .row-at .ensures) in
+    let r = c .before .before .before in
+    let e = r .start-at .ensures in
     ap Budget e ∙ below-first _ _ _ (whole (r .before .before .before)) (none (r .before)) (omega (arith, ap (λ (x : PagesPerHour). x .0) e, c .if4 .taken)) ∙ sym (decided (r .before .before .before .before .before))
 
 returns-6 : tie.Need-returns-6
 returns-6 c =
-    let r = c .before .before .before .before in
-    let e = ap (λ (x : TableRow). x .start) (r .row-at .ensures) in
-    row-there _ _ _ (whole (r .before .before .before)) (none (r .before)) (omega (arith, ap (λ (x : PagesPerHour). x .0) e, c .if4 .left)) ∙ sym (decided (r .before .before .before .before .before))
+    let r = c .before .before .before in
+    row-there _ _ _ (whole (r .before .before .before)) (none (r .before)) (omega (arith, ap (λ (x : PagesPerHour). x .0) (r .start-at .ensures), c .if4 .left)) ∙ sym (decided (r .before .before .before .before .before))
 
 pub judge-lookup-spec : {M : Type 1} → statement M
 judge-lookup-spec =
@@ -77,6 +75,6 @@ judge-lookup-spec =
     returns-3
     first-bad-row-requires
     returns-4
-    row-at-requires
+    start-at-requires
     returns-5
     returns-6)

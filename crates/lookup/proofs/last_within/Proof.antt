@@ -4,7 +4,7 @@ use Prim.Native.Nat.{_≤_}
 use mathlib.Core.Path.{_≡_, _∙_, ap, sym}
 use native.Mathlib.Omega.{arith}
 use borrow.Author.Needs.{needs}
-use Rattle.lookup.specs.declared.TableRow.{TableRow}
+use Rattle.model.specs.declared.PagesPerHour.{PagesPerHour}
 use Rattle.lookup.specs.Table.{rowsIn}
 use Rattle.lookup.specs.Lookup.{lastWithin}
 use Rattle.lookup.proofs.Finding.{last-found, last-before, last-none}
@@ -20,11 +20,11 @@ abbrev μ-loop : tie.MeasureT-loop
 loop-holds : tie.Need-loop-holds Inv-loop μ-loop
 loop-holds c = search needs
 
-sub-row-at : tie.Need-sub-row-at Inv-loop μ-loop
-sub-row-at c = search needs
+sub-start-at : tie.Need-sub-start-at Inv-loop μ-loop
+sub-start-at c = search needs
 
-row-at-requires : tie.Need-row-at-requires Inv-loop μ-loop
-row-at-requires c κs = search needs
+start-at-requires : tie.Need-start-at-requires Inv-loop μ-loop
+start-at-requires c κs = search needs
 
 sub-result : tie.Need-sub-result Inv-loop μ-loop
 sub-result c = search needs
@@ -33,7 +33,7 @@ returns : tie.Need-returns Inv-loop μ-loop
 returns c =
     let r = c .before .before .before in
     let l = r .before .before .loop in
-    sym (l .inv .1 ∙ last-found _ _ (l .k) (r .before .loop-test .taken) (omega (arith, ap (λ (x : TableRow). x .start .0) (r .row-at .ensures))))
+    sym (l .inv .1 ∙ last-found _ _ (l .k) (r .before .loop-test .taken) (omega (arith, ap (λ (x : PagesPerHour). x .0) (r .start-at .ensures))))
 
 sub-k : tie.Need-sub-k Inv-loop μ-loop
 sub-k c = search needs
@@ -45,7 +45,7 @@ loop-again : tie.Need-loop-again Inv-loop μ-loop
 loop-again c =
     let r = c .before .before .before in
     let l = r .before .before .loop in
-    (omega arith, l .inv .1 ∙ last-before _ _ (l .k) (r .before .loop-test .taken) (omega (arith, ap (λ (x : TableRow). x .start .0) (r .row-at .ensures))))
+    (omega arith, l .inv .1 ∙ last-before _ _ (l .k) (r .before .loop-test .taken) (omega (arith, ap (λ (x : PagesPerHour). x .0) (r .start-at .ensures))))
 
 returns-2 : tie.Need-returns-2 Inv-loop μ-loop
 returns-2 c =
@@ -60,8 +60,8 @@ last-within-spec =
     Inv-loop
     μ-loop
     loop-holds
-    sub-row-at
-    row-at-requires
+    sub-start-at
+    start-at-requires
     sub-result
     returns
     sub-k

@@ -1,7 +1,7 @@
 -- `lookup::locate` meets its contract: beside a refusal 0, else one more than the row that was found, which is one of the table's.
 -- Assumes nothing.
 use Prim.Native.Nat.{ℕ, _+_}
-use mathlib.Core.Path.{_≡_, refl, _∙_, sym, ap}
+use mathlib.Core.Path.{_≡_, _∙_, sym, ap}
 use native.Mathlib.Omega.{arith}
 use Rattle.model.specs.declared.Verdict.the-variants.{Sound}
 use Rattle.model.proofs.Verdicts.{refuses, beside-sound, beside-refusal}
