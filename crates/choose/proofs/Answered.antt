@@ -12,16 +12,17 @@ use Rattle.model.specs.declared.Job.{Job}
 use Rattle.model.specs.declared.Verdict.the-variants.{NoPeriods, Budget}
 use Rattle.model.specs.Model.{seconds, pagesPerHour, ValidJobs, PermittedAfter}
 use Rattle.choose.specs.Choice.{refused, Outcome}
-use Rattle.choose.specs.Walk.{start, walk, walkDown}
+use Rattle.walk.specs.Walk.{start, walk, walkDown}
 use Rattle.choose.specs.Found.{nothing, found, pick, none, least, lessNeed, settle}
-use Rattle.choose.specs.Arrays.{Held}
-use Rattle.choose.specs.Steps.{Ready, noPlan, noNeed, periodsIn, foundIn, leastIn, Lessens, Walks, Small, planIn}
-use Rattle.choose.proofs.Falling.{down-lists}
+use Rattle.walk.specs.Arrays.{Held}
+use Rattle.walk.specs.Steps.{Ready, periodsIn}
+use Rattle.choose.specs.Steps.{noPlan, noNeed, foundIn, leastIn, Lessens, Walks, Small, planIn}
+use Rattle.walk.proofs.Falling.{down-lists}
 use Rattle.choose.proofs.Fold.{BestFound, BestOrNone, walk-best}
 use Rattle.choose.proofs.LeastNeed.{LeastOrNone, walk-least}
 use Rattle.choose.proofs.Settled.{settled}
-use Rattle.choose.proofs.Bounds.{start-bounded}
-use Rattle.choose.proofs.Held.{held-valid}
+use Rattle.walk.proofs.Bounds.{start-bounded}
+use Rattle.walk.proofs.Held.{held-valid}
 use Rattle.choose.proofs.Lessening.{some-least, no-least}
 use Rattle.choose.proofs.Stored.{plan-found, no-plan-found}
 

@@ -13,16 +13,17 @@ use Rattle.model.specs.declared.PagesPerHour.{PagesPerHour}
 use Rattle.model.specs.declared.Job.{Job}
 use Rattle.model.proofs.Bounds.{mostLoss, job-loss-bound}
 use Rattle.model.specs.Model.{seconds, jobLoss}
-use Rattle.choose.specs.Walk.{node, next, walkBy, walk, walkFrom}
+use Rattle.walk.specs.Walk.{node, next, walkBy, walk, walkFrom}
 use Rattle.choose.specs.Found.{Found, found, pick}
-use Rattle.choose.specs.Arrays.{HoldsJob, Held}
-use Rattle.choose.specs.Steps.{lossAt, LossFits, needAt, Later, Ready, ReadyForCut, IsLossFloor, periodsIn, foundIn, Sizes, Offers, WinsNothing, Walks}
+use Rattle.walk.specs.Arrays.{HoldsJob, Held}
+use Rattle.walk.specs.Steps.{lossAt, LossFits, needAt, Later, Ready, ReadyForCut, IsLossFloor, periodsIn}
+use Rattle.choose.specs.Steps.{foundIn, Sizes, Offers, WinsNothing, Walks}
 use Rattle.model.proofs.Rounding.{round-up-above}
-use Rattle.choose.proofs.Bounds.{loss-floor-bound}
+use Rattle.walk.proofs.Bounds.{loss-floor-bound}
 use Rattle.choose.proofs.Updates.{keeps-more-loss}
-use Rattle.choose.proofs.Loops.{loop-opens, loop-takes, loop-ends, loop-left}
-use Rattle.choose.proofs.Held.{held-open, held-none, held-next, held-valid, job-loss-fits, job-loss-is}
-use Rattle.choose.proofs.Cuts.{next-ready, next-written}
+use Rattle.walk.proofs.Loops.{loop-opens, loop-takes, loop-ends, loop-left}
+use Rattle.walk.proofs.Held.{held-open, held-none, held-next, held-valid, job-loss-fits, job-loss-is}
+use Rattle.walk.proofs.Cuts.{next-ready, next-written}
 use Rattle.choose.proofs.Stored.{periods-snoc, plan-found}
 
 -- the periods with one more

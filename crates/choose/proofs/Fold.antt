@@ -11,12 +11,12 @@ use Rattle.model.specs.declared.Seconds.{Seconds}
 use Rattle.model.specs.declared.PagesPerHour.{PagesPerHour}
 use Rattle.model.specs.declared.Job.{Job}
 use Rattle.model.specs.Model.{seconds, ValidJobs, Permitted, need, FitsBudget, loss, NotAfter, NoWorse, Best}
-use Rattle.choose.specs.Chains.{chains}
-use Rattle.choose.specs.Walk.{visit, start, walk}
+use Rattle.walk.specs.Chains.{chains}
+use Rattle.walk.specs.Walk.{visit, start, walk}
 use Rattle.choose.specs.Found.{Found, nothing, found, pick}
-use Rattle.choose.proofs.Sorted.{Sorted}
-use Rattle.choose.proofs.Chains.{multiples-lists, chains-only, chains-all, chains-sorted}
-use Rattle.choose.proofs.Walk.{walk-all}
+use Rattle.walk.proofs.Sorted.{Sorted}
+use Rattle.walk.proofs.Chains.{multiples-lists, chains-only, chains-all, chains-sorted}
+use Rattle.walk.proofs.Walk.{walk-all}
 use Rattle.choose.proofs.Updates.{pick-over, pick-first, pick-less-loss, pick-less-need, pick-more-loss, pick-no-less}
 
 not-after-self : (ts : List Seconds) → NotAfter ts ts

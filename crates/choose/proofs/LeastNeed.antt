@@ -11,11 +11,11 @@ use Rattle.model.specs.declared.Seconds.{Seconds}
 use Rattle.model.specs.declared.Job.{Job}
 use Rattle.model.specs.Model.{seconds, pagesPerHour, ValidJobs, Permitted, need, loss}
 use Rattle.choose.specs.Choice.{LeastBudget}
-use Rattle.choose.specs.Chains.{chainsBy}
-use Rattle.choose.specs.Walk.{visit, start, walkBy}
+use Rattle.walk.specs.Chains.{chainsBy}
+use Rattle.walk.specs.Walk.{visit, start, walkBy}
 use Rattle.choose.specs.Found.{Least, none, least, lessNeed}
-use Rattle.choose.proofs.Chains.{ListsAllowed, chains-only, chains-all}
-use Rattle.choose.proofs.Walk.{walk-all}
+use Rattle.walk.proofs.Chains.{ListsAllowed, chains-only, chains-all}
+use Rattle.walk.proofs.Walk.{walk-all}
 
 -- What is had is the need of some permitted list.
 abbrev pub IsNeed : List Job → Least → Type 0

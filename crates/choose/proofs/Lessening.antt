@@ -12,18 +12,19 @@ use Rattle.model.specs.declared.Seconds.{Seconds}
 use Rattle.model.specs.declared.PagesPerHour.{PagesPerHour}
 use Rattle.model.specs.declared.Job.{Job}
 use Rattle.model.specs.Model.{seconds, pagesPerHour, jobLoss}
-use Rattle.choose.specs.Walk.{needFloor, node, next, walkBy, walkDown, walkDownFrom}
+use Rattle.walk.specs.Walk.{needFloor, node, next, walkBy, walkDown, walkDownFrom}
 use Rattle.choose.specs.Found.{none, least, lessNeed}
-use Rattle.choose.specs.Arrays.{Held}
-use Rattle.choose.specs.Steps.{needAt, Unreached, ReadyForNeed, ReadyForCut, noNeed, leastIn, Lessens, LessensNothing}
+use Rattle.walk.specs.Arrays.{Held}
+use Rattle.walk.specs.Steps.{needAt, Unreached, ReadyForCut}
+use Rattle.choose.specs.Steps.{ReadyForNeed, noNeed, leastIn, Lessens, LessensNothing}
 use Rattle.model.proofs.Rounding.{multiple-is, split-product}
-use Rattle.choose.proofs.Floors.{multiple-above}
-use Rattle.choose.proofs.Falling.{down-lists}
-use Rattle.choose.proofs.Walk.{walk-cut}
+use Rattle.walk.proofs.Floors.{multiple-above}
+use Rattle.walk.proofs.Falling.{down-lists}
+use Rattle.walk.proofs.Walk.{walk-cut}
 use Rattle.choose.proofs.Updates.{keeps-least}
-use Rattle.choose.proofs.Loops.{down-opens, down-takes, down-ends}
-use Rattle.choose.proofs.Held.{held-open, held-none, held-next, held-valid, need-to}
-use Rattle.choose.proofs.Cuts.{need-floor-is, unreached, ready-need, need-floor-to, next-ready, next-written}
+use Rattle.walk.proofs.Loops.{down-opens, down-takes, down-ends}
+use Rattle.walk.proofs.Held.{held-open, held-none, held-next, held-valid, need-to}
+use Rattle.walk.proofs.Cuts.{need-floor-is, unreached, ready-need, need-floor-to, next-ready, next-written}
 
 -- a need that is one, and one that is none
 pub some-least : (q : PagesPerHour) → (q .0 ≡ noNeed → ⊥) → leastIn q ≡ least (q .0)

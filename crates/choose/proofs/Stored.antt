@@ -14,7 +14,8 @@ use Rattle.model.specs.declared.PagesPerHour.{PagesPerHour}
 use Rattle.model.specs.Model.{seconds, pagesPerHour}
 use Rattle.choose.specs.Choice.{padded}
 use Rattle.choose.specs.Found.{Found, nothing, found, pick}
-use Rattle.choose.specs.Steps.{needAt, noPlan, periodsIn, foundIn, Sizes, Keeps, Offers}
+use Rattle.walk.specs.Steps.{needAt, periodsIn}
+use Rattle.choose.specs.Steps.{noPlan, foundIn, Sizes, Keeps, Offers}
 use Rattle.choose.proofs.Updates.{pick-over, pick-first, pick-less-loss, pick-less-need, pick-more-loss, pick-no-less}
 
 pub periods-snoc : (xs : List ℕ) (t : ℕ) → map seconds (xs ++ (t ∷ [])) ≡ map seconds xs ++ (seconds t ∷ [])

@@ -9,7 +9,7 @@ use lib.Dec.{leb, eqb}
 use borrow.Author.Tests.{le-leb, lt-leb, lt-ltb, le-ltb, eq-eqb, ne-eqb}
 use Rattle.model.specs.declared.Seconds.{Seconds}
 use Rattle.choose.specs.Found.{Found, nothing, found, beats, pick, least, lessNeed}
-use Rattle.choose.proofs.Walk.{Keeps}
+use Rattle.walk.proofs.Walk.{Keeps}
 
 module _ (b q l : ℕ) (ts : List Seconds) where
   -- over the budget

@@ -8,14 +8,15 @@ use native.Mathlib.Nat.{le-refl}
 use lib.ListN.{getD}
 use Rattle.model.specs.declared.Seconds.{Seconds}
 use Rattle.model.specs.declared.PagesPerHour.{PagesPerHour}
-use Rattle.choose.specs.Walk.{needFloor, node, walk}
+use Rattle.walk.specs.Walk.{needFloor, node, walk}
 use Rattle.choose.specs.Found.{Found, found, pick}
-use Rattle.choose.specs.Steps.{needAt, Unreached, ReadyForCut, noPlan, periodsIn, foundIn, WinsNothing}
-use Rattle.choose.proofs.Chains.{multiples-lists}
-use Rattle.choose.proofs.Walk.{walk-cut}
+use Rattle.walk.specs.Steps.{needAt, Unreached, ReadyForCut, periodsIn}
+use Rattle.choose.specs.Steps.{noPlan, foundIn, WinsNothing}
+use Rattle.walk.proofs.Chains.{multiples-lists}
+use Rattle.walk.proofs.Walk.{walk-cut}
 use Rattle.choose.proofs.Updates.{keeps-over, keeps-no-less}
-use Rattle.choose.proofs.Held.{held-valid}
-use Rattle.choose.proofs.Cuts.{need-floor-is, unreached}
+use Rattle.walk.proofs.Held.{held-valid}
+use Rattle.walk.proofs.Cuts.{need-floor-is, unreached}
 use Rattle.choose.proofs.Stored.{plan-found}
 
 module _ {spans rates : List ℕ} {i n : ℕ} {t : Seconds} {written : ℕ} (r : ReadyForCut spans rates i n t written) (b : PagesPerHour) (floor : ℕ) (best : List ℕ) where

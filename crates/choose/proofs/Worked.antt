@@ -11,10 +11,10 @@ use Rattle.model.specs.Model.{seconds, pagesPerHour, jobsOf, entries, rate, job
 use Rattle.model.proofs.Validity.{sound-valid}
 use Rattle.choose.specs.declared.Choice.{Choice}
 use Rattle.choose.specs.Choice.{refused, Chosen}
-use Rattle.choose.specs.Chains.{climb, descend, risingFrom, fallingFrom, multiples, multiplesDown}
-use Rattle.choose.specs.Walk.{visit, start, walkBy, walk, walkDown}
+use Rattle.walk.specs.Chains.{climb, descend, risingFrom, fallingFrom, multiples, multiplesDown}
+use Rattle.walk.specs.Walk.{visit, start, walkBy, walk, walkDown}
 use Rattle.choose.specs.Found.{nothing, none, beats, pick, lessNeed, settle}
-use Rattle.choose.proofs.Falling.{down-lists}
+use Rattle.walk.proofs.Falling.{down-lists}
 use Rattle.choose.proofs.Fold.{walk-best}
 use Rattle.choose.proofs.LeastNeed.{walk-least}
 use Rattle.choose.proofs.Settled.{settled}

@@ -1,19 +1,18 @@
 // The best periods for a budget: a walk through all permitted lists, cut where floors show that nothing better is ahead.
 //
-// specs/Choice.antt says what may be answered; specs/Arrays.antt and specs/Steps.antt serve the private functions alone.
+// specs/Choice.antt says what may be answered; specs/Found.antt and specs/Steps.antt serve the private functions alone.
 // Nothing is assumed, and no public function has a `requires`.
-use model::Job;
 use model::PagesPerHour;
 use model::Profile;
 use model::Seconds;
 use model::Verdict;
 ghost use mathlib.Core.Path.{_≡_};
 ghost use mathlib.Core.Bool.{false};
-ghost use Prim.Native.Nat.{_<_, min, max};
-ghost use Rattle.model.specs.Model.{pagesPerHour, jobsOf, cost, Valid, ValidJob};
+ghost use Prim.Native.Nat.{_<_, min};
+ghost use Rattle.model.specs.Model.{jobsOf, Valid};
 ghost use Rattle.choose.specs.Choice.{refused, Outcome, Chosen};
-ghost use Rattle.choose.specs.Arrays.{SecondsFrom, PagesFrom, RatesFrom, StiffnessesFrom};
-ghost use Rattle.choose.specs.Steps.{lossAt, LossFits, needAt, NeedFits, Ends, Unreached, Later, IsLossFloor, ReadyForNeed, ReadyForCut, Lessens, LessensNothing, noPlan, Ready, Sizes, Keeps, Offers, WinsNothing, Walks, Small, planIn};
+ghost use Rattle.walk.specs.Steps.{NeedFits, Ready, ReadyForCut};
+ghost use Rattle.choose.specs.Steps.{ReadyForNeed, Lessens, LessensNothing, noPlan, Sizes, Keeps, Offers, WinsNothing, Walks, Small, planIn};
 
 // What `choose` answers: the periods (zeros beyond n), their need and loss; beside a refusal all zeros.
 pub struct Choice {
@@ -50,10 +49,10 @@ fn choose_sound(p: Profile, budget: PagesPerHour) -> Choice
     ensures { λ r. ⌜ Outcome (jobsOf p) budget r ⌝ }
 {
     let n = p.n as usize;
-    let seconds = seconds_of(p);
-    let pages = pages_of(p);
-    let rates = rates_of(p);
-    let stiffnesses = stiffnesses_of(p);
+    let seconds = walk::seconds_of(p);
+    let pages = walk::pages_of(p);
+    let rates = walk::rates_of(p);
+    let stiffnesses = walk::stiffnesses_of(p);
     let mut periods = [0u32; 8];
     let mut best = [0u64; 10];
     best[LOSS] = NO_PLAN;
@@ -88,86 +87,6 @@ fn choose_sound(p: Profile, budget: PagesPerHour) -> Choice
         return refusal(Verdict::NoPeriods);
     }
     refusal(Verdict::Budget(PagesPerHour(least)))
-}
-
-// The shortest periods of the jobs, then the longest.
-fn seconds_of(p: Profile) -> [u32; 16]
-    requires { ⌜ Valid p ⌝ }
-    ensures { λ r. ⌜ SecondsFrom p 0 r ⌝ }
-{
-    let mut seconds = [0u32; 16];
-    let mut k = p.n as usize;
-    while 0 < k {
-        k -= 1;
-        let j = p.jobs[k];
-        seconds[k] = j.lo.0;
-        seconds[8 + k] = j.hi.0;
-    }
-    seconds
-}
-
-// The pages of a run that need counts, then those that loss counts.
-fn pages_of(p: Profile) -> [u32; 16]
-    requires { ⌜ Valid p ⌝ }
-    ensures { λ r. ⌜ PagesFrom p 0 r ⌝ }
-{
-    let mut pages = [0u32; 16];
-    let mut k = p.n as usize;
-    while 0 < k {
-        k -= 1;
-        let j = p.jobs[k];
-        pages[k] = need_pages(j);
-        pages[8 + k] = loss_pages(j);
-    }
-    pages
-}
-
-// The rates at the shortest periods, then what the jobs from each place on need at least.
-fn rates_of(p: Profile) -> [u32; 17]
-    requires { ⌜ Valid p ⌝ }
-    ensures { λ r. ⌜ RatesFrom p 0 r ⌝ }
-{
-    let mut rates = [0u32; 17];
-    let mut needs: u32 = 0;
-    let mut k = p.n as usize;
-    while 0 < k {
-        k -= 1;
-        let j = p.jobs[k];
-        rates[k] = 3600 * loss_pages(j) / j.lo.0;
-        needs = 3600 * need_pages(j) / j.hi.0 + needs;
-        rates[8 + k] = needs;
-    }
-    rates
-}
-
-// The stiffnesses of the jobs.
-fn stiffnesses_of(p: Profile) -> [u32; 8]
-    requires { ⌜ Valid p ⌝ }
-    ensures { λ r. ⌜ StiffnessesFrom p 0 r ⌝ }
-{
-    let mut stiffnesses = [0u32; 8];
-    let mut k = p.n as usize;
-    while 0 < k {
-        k -= 1;
-        let j = p.jobs[k];
-        stiffnesses[k] = j.stiffness;
-    }
-    stiffnesses
-}
-
-// The pages of a run, as need counts them and as loss counts them.
-fn need_pages(j: Job) -> u32
-    requires { ⌜ ValidJob j ⌝ }
-    ensures { λ r. ⌜ r ≡ cost j ⌝ }
-{
-    j.data + j.metadata
-}
-
-fn loss_pages(j: Job) -> u32
-    requires { ⌜ ValidJob j ⌝ }
-    ensures { λ r. ⌜ r ≡ cost j ⌝ }
-{
-    j.data + j.metadata
 }
 
 // A best plan as an answer, with zeros beyond its n periods.
@@ -231,13 +150,14 @@ fn find_best(
     let mut t = (lo + (step.0 - 1)) / step.0 * step.0;
     while t <= hi {
         let here = lost
-            + job_loss(
+            + walk::job_loss(
                 stiffnesses[i],
                 PagesPerHour(rates[i]),
                 pages[8 + i],
                 Seconds(t),
             );
-        let floor = here + loss_floor(seconds, pages, rates, stiffnesses, i + 1, n, Seconds(t));
+        let floor = here
+            + walk::loss_floor(seconds, pages, rates, stiffnesses, i + 1, n, Seconds(t));
         if best[LOSS] < floor {
             return;
         }
@@ -291,7 +211,7 @@ fn may_win(
     requires { ⌜ floor < noPlan ⌝ }
     ensures { λ r. ⌜ (r ≡ false → WinsNothing (now (seconds .entry)) (now (rates .entry)) i n budget t written floor (now (best .entry))) ⌝ }
 {
-    let need_floor = need_of(written, t).0 + rates[8 + i];
+    let need_floor = walk::need_of(written, t).0 + rates[8 + i];
     if budget.0 < need_floor {
         return false;
     }
@@ -300,7 +220,7 @@ fn may_win(
             return false;
         }
     }
-    reaches(seconds, i, n, t)
+    walk::reaches(seconds, i, n, t)
 }
 
 // One whole plan: kept if it fits the budget and has less loss than the best, or the same loss and less need.
@@ -318,7 +238,7 @@ fn offer(
     requires { ⌜ Sizes n (now periods) (now best) ⌝ }
     ensures { λ _. ⌜ Offers n budget t written lost (now (periods .entry)) (now (best .entry)) (now (best .exit)) ⌝ }
 {
-    let need = need_of(written, t);
+    let need = walk::need_of(written, t);
     if budget.0 < need.0 {
         return;
     }
@@ -364,7 +284,7 @@ fn least_need(
     ensures { λ r. ⌜ Lessens (now (seconds .entry)) (now (pages .entry)) (now (rates .entry)) i n step written had r ⌝ }
 {
     if i == n {
-        return smaller(need_of(written, step), had);
+        return smaller(walk::need_of(written, step), had);
     }
     let lo = seconds[i];
     let own = pages[i] as u64;
@@ -394,76 +314,11 @@ fn may_lessen(
     requires { ⌜ ReadyForCut (now seconds) (now rates) i n t written ⌝ }
     ensures { λ r. ⌜ (r ≡ false → LessensNothing (now (seconds .entry)) (now (rates .entry)) i n t written had) ⌝ }
 {
-    let floor = need_of(written, t).0 + rates[8 + i];
+    let floor = walk::need_of(written, t).0 + rates[8 + i];
     if had.0 <= floor {
         return false;
     }
-    reaches(seconds, i, n, t)
-}
-
-// The lowest loss that jobs i to n can come to when no period is shorter than t.
-fn loss_floor(
-    seconds: &[u32; 16],
-    pages: &[u32; 16],
-    rates: &[u32; 17],
-    stiffnesses: &[u32; 8],
-    i: usize,
-    n: usize,
-    t: Seconds,
-) -> u64
-    requires { ⌜ Later (now seconds) (now pages) (now rates) (now stiffnesses) i n t ⌝ }
-    ensures { λ r. ⌜ IsLossFloor (now (seconds .entry)) (now (pages .entry)) (now (rates .entry)) (now (stiffnesses .entry)) i n t r ⌝ }
-{
-    let mut floor: u64 = 0;
-    let mut k = n;
-    while i < k {
-        k -= 1;
-        let u = longer(Seconds(seconds[k]), t);
-        floor = job_loss(stiffnesses[k], PagesPerHour(rates[k]), pages[8 + k], u) + floor;
-    }
-    floor
-}
-
-// What a job loses at period t against its shortest.
-fn job_loss(stiffness: u32, fastest: PagesPerHour, pages: u32, t: Seconds) -> u64
-    requires { ⌜ LossFits stiffness (fastest .0) pages (t .0) ⌝ }
-    ensures { λ r. ⌜ r ≡ lossAt stiffness (fastest .0) pages (t .0) ⌝ }
-{
-    let slower = (fastest.0 - 3600 * pages / t.0) as u64;
-    (stiffness as u64) * (slower * slower)
-}
-
-// Whether each of the jobs i to n has a multiple of t in its interval.
-fn reaches(seconds: &[u32; 16], i: usize, n: usize, t: Seconds) -> bool
-    requires { ⌜ Ends (now seconds) i n t ⌝ }
-    ensures { λ r. ⌜ (r ≡ false → Unreached (now (seconds .entry)) i n t) ⌝ }
-{
-    let mut k = i;
-    while k < n {
-        if seconds[8 + k] / t.0 * t.0 < seconds[k] {
-            return false;
-        }
-        k += 1;
-    }
-    true
-}
-
-// The need of a plan that writes so many pages in t seconds.
-fn need_of(written: u64, t: Seconds) -> PagesPerHour
-    requires { ⌜ NeedFits written t ⌝ }
-    ensures { λ r. ⌜ r ≡ pagesPerHour (needAt written t) ⌝ }
-{
-    let span = t.0 as u64;
-    PagesPerHour(((3600 * written + (span - 1)) / span) as u32)
-}
-
-fn longer(a: Seconds, b: Seconds) -> Seconds
-    ensures { λ r. ⌜ r .0 ≡ max (a .0) (b .0) ⌝ }
-{
-    if a.0 < b.0 {
-        return b;
-    }
-    a
+    walk::reaches(seconds, i, n, t)
 }
 
 fn smaller(a: PagesPerHour, b: PagesPerHour) -> PagesPerHour

@@ -14,8 +14,8 @@ use Rattle.model.specs.declared.Job.{Job}
 use Rattle.model.specs.declared.Profile.{Profile}
 use Rattle.model.specs.Model.{pagesPerHour, noJob, cost, ValidJob, rate, jobLoss}
 use Rattle.model.proofs.Bounds.{mostLoss, mostRate, rate-bound, rate-falls}
-use Rattle.choose.specs.Steps.{lossAt, LossFits}
-use Rattle.choose.proofs.Held.{square-fits, loss-fits, loss-is}
+use Rattle.walk.specs.Steps.{lossAt, LossFits}
+use Rattle.walk.proofs.Held.{square-fits, loss-fits, loss-is}
 use Rattle.lookup.specs.Checks.{Fastest}
 
 pub one-rate : {p : Profile} {rates : List PagesPerHour} {k : ℕ} (r : PagesPerHour) → k < 8 → r ≡ rate (getD (p .jobs) k noJob) (getD (p .jobs) k noJob .lo) → Fastest p k rates → Fastest p (k + 1) (set rates k r)

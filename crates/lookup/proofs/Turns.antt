@@ -16,10 +16,10 @@ use Rattle.model.specs.Model.{seconds, pagesPerHour, noJob, entries, jobsOf, pe
 use Rattle.model.proofs.Bounds.{eight-losses}
 use Rattle.model.proofs.Entries.{entries-step, entries-end}
 use Rattle.model.proofs.Validity.{job-valid-at}
-use Rattle.choose.specs.Walk.{pagesAfter, needAfter, node, Bounded}
-use Rattle.choose.specs.Steps.{NeedFits, needAt as needFrom}
-use Rattle.choose.proofs.Bounds.{start-bounded, next-bounded}
-use Rattle.choose.proofs.Pages.{need-is as need-after}
+use Rattle.walk.specs.Walk.{pagesAfter, needAfter, node, Bounded}
+use Rattle.walk.specs.Steps.{NeedFits, needAt as needFrom}
+use Rattle.walk.proofs.Bounds.{start-bounded, next-bounded}
+use Rattle.walk.proofs.Pages.{need-is as need-after}
 use Rattle.lookup.specs.declared.TableRow.{TableRow}
 use Rattle.lookup.specs.Table.{startAt, periodsAt, needAt, lossAt}
 use Rattle.lookup.specs.Lookup.{allows, placesRight, follows, rowRight, firstBad}

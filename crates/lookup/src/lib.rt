@@ -14,8 +14,8 @@ ghost use Prim.Native.Nat.{_+_, _*_, _-_, _/_, _^_, _≤_, _<_};
 ghost use denote.Ref.{ptr};
 ghost use Rattle.codec.specs.Packing.{unpack};
 ghost use Rattle.codec.specs.Rows.{tableWidths};
-ghost use Rattle.model.specs.Model.{pagesPerHour, cost, ValidJob, Valid, rate, jobLoss};
-ghost use Rattle.choose.specs.Steps.{needAt, NeedFits};
+ghost use Rattle.model.specs.Model.{cost, ValidJob, Valid, rate, jobLoss};
+ghost use Rattle.walk.specs.Steps.{NeedFits};
 ghost use Rattle.lookup.specs.Table.{rowsIn, startAt};
 ghost use Rattle.lookup.specs.Lookup.{allows, follows, firstBad, lastWithin, LooksUp, Locates, Tells};
 ghost use Rattle.lookup.specs.Cut.{rowOf, rowAt};
@@ -122,7 +122,7 @@ fn first_bad_row(p: Profile, table: &[u8]) -> usize
         if !zeros_from(periods, i) {
             break 'rows k + 1;
         }
-        if need_of(written, before).0 != start.0 {
+        if walk::need_of(written, before).0 != start.0 {
             break 'rows k + 1;
         }
         if !may_follow(k, start_before, loss_before, start, lost) {
@@ -212,15 +212,6 @@ fn zeros_from(periods: [Seconds; 8], i: usize) -> bool
         k += 1;
     }
     true
-}
-
-// The need of periods that write so many pages in t seconds.
-fn need_of(written: u64, t: Seconds) -> PagesPerHour
-    requires { ⌜ NeedFits written t ⌝ }
-    ensures { λ r. ⌜ r ≡ pagesPerHour (needAt written t) ⌝ }
-{
-    let span = t.0 as u64;
-    PagesPerHour(((3600 * written + (span - 1)) / span) as u32)
 }
 
 // Whether a row may follow the one before it: the first follows none.

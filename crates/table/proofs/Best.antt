@@ -12,11 +12,11 @@ use Rattle.model.specs.declared.PagesPerHour.{PagesPerHour}
 use Rattle.model.specs.declared.Job.{Job}
 use Rattle.model.specs.Model.{seconds, cost, ValidJobs, Permitted, lastOf, pagesIn, need, FitsBudget, loss, Best}
 use Rattle.model.proofs.Bounds.{cost-bound, need-bound}
-use Rattle.choose.specs.Walk.{walk, start}
+use Rattle.walk.specs.Walk.{walk, start}
 use Rattle.choose.specs.Found.{Found, nothing, found, pick}
 use Rattle.choose.proofs.Fold.{BestOrNone, walk-best}
 use Rattle.choose.proofs.OneOutcome.{one-best}
-use Rattle.choose.proofs.Pages.{last-positive}
+use Rattle.walk.proofs.Pages.{last-positive}
 use Rattle.table.specs.Table.{TableOf}
 
 module _ {js : List Job} {ts : List Seconds} where

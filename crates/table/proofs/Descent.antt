@@ -12,7 +12,7 @@ use Rattle.model.specs.declared.Seconds.{Seconds}
 use Rattle.model.specs.declared.PagesPerHour.{PagesPerHour}
 use Rattle.model.specs.declared.Job.{Job}
 use Rattle.model.specs.Model.{pagesPerHour, ValidJobs, Permitted, need, FitsBudget, Best}
-use Rattle.choose.specs.Walk.{walk, start}
+use Rattle.walk.specs.Walk.{walk, start}
 use Rattle.choose.specs.Found.{Found, nothing, found, pick}
 use Rattle.choose.proofs.Fold.{BestOrNone, walk-best}
 use Rattle.choose.proofs.OneOutcome.{one-best}

@@ -12,7 +12,7 @@ use Rattle.model.specs.declared.Verdict.the-variants.{NoPeriods, Budget}
 use Rattle.model.specs.Model.{seconds, need}
 use Rattle.choose.specs.declared.Choice.{Choice}
 use Rattle.choose.specs.Choice.{answered, refused}
-use Rattle.choose.specs.Walk.{start, walk}
+use Rattle.walk.specs.Walk.{start, walk}
 use Rattle.choose.specs.Found.{Found, nothing, found, pick}
 
 -- The rows up to what was found: those whose need is below its need, then itself.

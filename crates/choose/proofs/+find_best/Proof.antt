@@ -4,7 +4,7 @@ use Prim.Native.Nat.{ℕ, _<_, _+_, _-_}
 use mathlib.Core.Path.{_∙_}
 use native.Mathlib.Nat.{div-le-self, div-mul-le-self}
 use lib.ListN.{getD, length-set}
-use Rattle.choose.proofs.Cuts.{ready-more, ready-shortest, ready-longest, ready-own, ready-need}
+use Rattle.walk.proofs.Cuts.{ready-more, ready-shortest, ready-longest, ready-own, ready-need}
 use Rattle.choose.proofs.Climbing.{Up, Turn, up-leaf, up-starts, up-done, up-loss-fits, up-later, up-written, up-cut, up-lost, up-next, up-floor, up-left, up-skip, up-turn}
 use borrow.Author.Needs.{needs}
 use native.Mathlib.Omega.{arith}
@@ -13,8 +13,8 @@ use borrow.Fn.PlainCycle.{Measures, is, falls, and}
 use Rattle.choose.proofs.find_best.Reads as find-best
 use Rattle.choose.proofs.find_best.Kinds as find-best-kinds
 use Rattle.choose.proofs.+find_best.Lts-find_best as find-best-lts
-use Rattle.choose.proofs.job_loss.Reads as job-loss-reads
-use Rattle.choose.proofs.loss_floor.Reads as loss-floor-reads
+use Rattle.walk.proofs.job_loss.Reads as job-loss-reads
+use Rattle.walk.proofs.loss_floor.Reads as loss-floor-reads
 use Rattle.choose.proofs.may_win.Reads as may-win-reads
 use Rattle.choose.proofs.offer.Reads as offer-reads
 use Rattle.choose.proofs.+find_best.{statement}

@@ -3,7 +3,7 @@
 use Prim.Native.Nat.{ℕ, _<_, _+_, _-_}
 use lib.ListN.{getD}
 use native.Mathlib.Nat.{div-le-self, div-mul-le-self}
-use Rattle.choose.proofs.Cuts.{ready-more, ready-longest, ready-own, ready-need}
+use Rattle.walk.proofs.Cuts.{ready-more, ready-longest, ready-own, ready-need}
 use Rattle.choose.proofs.Lessening.{Down, DownTurn, down-leaf, down-starts, down-room, down-next, down-cut, down-written, down-turn, down-skip, down-done}
 use borrow.Author.Needs.{needs}
 use native.Mathlib.Omega.{arith}
@@ -13,7 +13,7 @@ use Rattle.choose.proofs.least_need.Reads as least-need
 use Rattle.choose.proofs.least_need.Kinds as least-need-kinds
 use Rattle.choose.proofs.+least_need.Lts-least_need as least-need-lts
 use Rattle.choose.proofs.may_lessen.Reads as may-lessen-reads
-use Rattle.choose.proofs.need_of.Reads as need-of-reads
+use Rattle.walk.proofs.need_of.Reads as need-of-reads
 use Rattle.choose.proofs.smaller.Reads as smaller-reads
 use Rattle.choose.proofs.+least_need.{statement}
 use Rattle.choose.proofs.+least_need.Tie.{close}

@@ -2,7 +2,7 @@
 -- Assumes nothing.
 use borrow.Author.Needs.{needs}
 use mathlib.Core.Path.{refl}
-use Rattle.choose.proofs.Filled.{all-held}
+use Rattle.walk.proofs.Filled.{all-held}
 use Rattle.choose.proofs.Answered.{ready-start, plan-small, plan-right, none-right, least-right}
 use native.Mathlib.Omega.{arith}
 use Rattle.choose.proofs.choose_sound.Statement.{statement}

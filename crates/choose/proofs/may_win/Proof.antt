@@ -3,7 +3,7 @@
 use borrow.Author.Needs.{needs}
 use mathlib.Core.Path.{ap}
 use Rattle.model.specs.declared.PagesPerHour.{PagesPerHour}
-use Rattle.choose.proofs.Cuts.{ready-need, ready-ends, need-floor-to}
+use Rattle.walk.proofs.Cuts.{ready-need, ready-ends, need-floor-to}
 use Rattle.choose.proofs.Winning.{over-wins-nothing, tie-wins-nothing, unreached-wins-nothing}
 use native.Mathlib.Omega.{arith}
 use Rattle.choose.proofs.may_win.Statement.{statement}

@@ -7,7 +7,7 @@ use lib.ListN.{getD, replicate}
 use Rattle.model.specs.declared.Seconds.{Seconds}
 use Rattle.model.specs.declared.Verdict.the-variants.{Sound}
 use Rattle.model.specs.Model.{seconds, pagesPerHour}
-use Rattle.choose.specs.Steps.{periodsIn}
+use Rattle.walk.specs.Steps.{periodsIn}
 use Rattle.choose.proofs.Stored.{plan-more, plan-padded}
 use borrow.Author.Needs.{needs}
 use native.Mathlib.Omega.{arith}

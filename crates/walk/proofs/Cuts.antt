@@ -1,0 +1,115 @@
+-- The tests that cut a walk, as the code makes them on the numbers of the arrays: each shows that the walk would change nothing.
+-- Assumes nothing.
+use mathlib.Core.Path.{_≡_, ap}
+use mathlib.Core.List.{List, []}
+use Prim.Native.Nat.{ℕ, _+_, _*_, _/_, _%_, _≤_, _<_, zero-le}
+use native.Mathlib.Omega.{arith}
+use native.Mathlib.Nat.{le-trans, mul-le-mul-right}
+use lib.ListN.{getD}
+use Rattle.model.specs.declared.Seconds.{Seconds}
+use Rattle.model.specs.declared.Job.{Job}
+use Rattle.model.proofs.Bounds.{mostLoss}
+use Rattle.model.specs.Model.{seconds, cost, Allowed, roundUp}
+use Rattle.walk.specs.Walk.{needFloor, Node, node, walkBy}
+use Rattle.walk.specs.Arrays.{HoldsJob, Held}
+use Rattle.walk.specs.Steps.{needAt, NeedFits, Ends, Unreached, Ready}
+use Rattle.walk.proofs.Chains.{ListsAllowed}
+use Rattle.walk.proofs.Walk.{walk-out-of-reach}
+use Rattle.walk.proofs.Bounds.{need-bound, least-needs-bound, next-bounded}
+use Rattle.walk.proofs.Held.{held-open, held-at, held-valid}
+
+module _ {spans runs rates weights : List ℕ} {i n : ℕ} where
+  -- the need floor is one of the jobs' own
+  pub need-floor-is : (js : List Job) (t : Seconds) (written : ℕ) → Held spans runs rates weights i n js → needAt written t + getD rates (8 + i) 0 ≡ needFloor written t js
+  unfolding needAt needFloor
+  need-floor-is js t written h = ap (λ (x : ℕ). roundUp (3600 * written) (t .0) + x) (h .needs)
+
+  -- an interval of a later job that holds no multiple of t
+  pub unreached : {order : Seconds → Job → List Seconds} → ListsAllowed order → {A : Type 0} (f : ℕ → ℕ → List Seconds → A → A) (acc : A) (js : List Job) (p : Node) →
+      1 ≤ p .before .0 → Held spans runs rates weights i n js → Unreached spans i n (p .before) → walkBy order f js p acc ≡ acc
+  unreached law f acc js p pos h u =
+      let a = held-at (u .0) js (u .1) (u .2) h in
+      let far = u .3 in
+      let lo = a .holds .shortest in
+      let hi : getD spans (8 + u .0) 0 / p .before .0 * p .before .0 ≡ a .job .hi .0 / p .before .0 * p .before .0 = ap (λ (x : ℕ). x / p .before .0 * p .before .0) (a .holds .longest) in
+      walk-out-of-reach law f acc js p (held-valid js h) pos (a .member) (omega arith)
+
+  module _ {t : Seconds} {written lost : ℕ} (r : Ready spans runs rates weights i n t written lost) where
+    place-to : i ≤ 8
+    place-to = let c = r .held .count in let m = r .held .most in omega arith
+
+    pub ready-more : (i ≡ n → ⊥) → i < n
+    ready-more some = let c = r .held .count in omega arith
+
+    -- what an entry of an array comes to at most
+    pub ready-longest : i < n → getD spans (8 + i) 0 ≤ 3600
+    ready-longest less =
+        let o = held-open (r .js) less (r .held) in
+        let v = o .holds .valid in
+        let e = o .holds .longest in
+        omega arith
+
+    pub ready-shortest : i < n → getD spans i 0 ≤ 3600
+    ready-shortest less =
+        let o = held-open (r .js) less (r .held) in
+        let v = o .holds .valid in
+        let e = o .holds .shortest in
+        omega arith
+
+    pub ready-own : i < n → getD runs i 0 ≤ 65534
+    ready-own less =
+        let o = held-open (r .js) less (r .held) in
+        let v = o .holds .valid in
+        let e = o .holds .for-need in
+        omega arith
+
+    pub ready-need : NeedFits written t
+    ready-need =
+        let w : written ≤ 65534 * i * t .0 = r .bounded .pages-to in
+        let p = place-to in
+        let k : 65534 * i ≤ 524272 = omega arith in
+        let m : 65534 * i * t .0 ≤ 524272 * t .0 = mul-le-mul-right (t .0) k in
+        record { from = r .from; to = r .to; written-to = le-trans w m }
+
+    pub ready-ends : Ends spans i n t
+    ready-ends = record { most = r .held .most; from = r .from; to = ends }
+      where
+        ends : (k : ℕ) → i ≤ k → k < n → getD spans (8 + k) 0 ≤ 3600
+        ends k from to = let a = held-at k (r .js) from to (r .held) in let v = a .holds .valid in let e = a .holds .longest in omega arith
+
+    pub need-floor-to : needAt written t + getD rates (8 + i) 0 ≤ 1887379200
+    unfolding needAt
+    need-floor-to =
+        let c = r .held .count in
+        let m = r .held .most in
+        let e = r .held .needs in
+        let a : needAt written t ≤ 235922400 * i = need-bound i (node t written lost []) (r .from) (r .bounded) in
+        let b = least-needs-bound (r .js) (held-valid (r .js) (r .held)) in
+        omega arith
+
+    -- one more job, at a multiple of the period before
+    module _ (less : i < n) (u : ℕ) (multiple : u % t .0 ≡ 0) (above : getD spans i 0 ≤ u) (below : u ≤ getD spans (8 + i) 0) where
+      pub next-allowed : (j : Job) {js : List Job} → HoldsJob spans runs rates weights i j js → Allowed j t (seconds u)
+      next-allowed j h = record { above = rw (h .shortest) at above; below = rw (h .longest) at below; multiple = multiple }
+
+      pub next-ready : {lost′ : ℕ} → lost′ ≤ mostLoss * (i + 1) → Ready spans runs rates weights (i + 1) n (seconds u) (written * (u / t .0) + getD runs i 0) lost′
+      next-ready {lost′} lost≤ =
+          let o = held-open (r .js) less (r .held) in
+          let v = o .holds .valid in
+          let lo = o .holds .shortest in
+          let hi = o .holds .longest in
+          let own = o .holds .for-need in
+          let b = next-bounded i (o .job) (node t written lost []) (seconds u) v (next-allowed (o .job) (o .holds)) (r .bounded) in
+          let p : written * (u / t .0) + cost (o .job) ≤ 65534 * (i + 1) * u = b .pages-to in
+          record { js = o .rest; held = o .later; from = omega arith; to = omega arith; bounded = record { pages-to = omega arith; lost-to = lost≤ } }
+
+      pub next-written : written * (u / t .0) + getD runs i 0 ≤ 1887379200
+      next-written =
+          let s : Ready spans runs rates weights (i + 1) n (seconds u) (written * (u / t .0) + getD runs i 0) 0 = next-ready zero-le in
+          let p : written * (u / t .0) + getD runs i 0 ≤ 65534 * (i + 1) * u = s .bounded .pages-to in
+          let c = s .held .count in
+          let m = s .held .most in
+          let k : 65534 * (i + 1) ≤ 524272 = omega arith in
+          let q : 65534 * (i + 1) * u ≤ 524272 * u = mul-le-mul-right u k in
+          let to = s .to in
+          omega arith

@@ -1,0 +1,171 @@
+-- The arrays of a profile, filled from the last job back, hold its jobs.
+-- Assumes nothing.
+use mathlib.Core.Path.{_≡_, refl, sym, _∙_, ap, ap₂, subst}
+use mathlib.Core.List.{List}
+use Prim.Native.Nat.{ℕ, zero, suc, _+_, _*_, _-_, _/_, _≤_, _<_}
+use native.Mathlib.Omega.{arith}
+use native.Mathlib.Decide.{ℕ-discrete}
+use native.Mathlib.Nat.{sub-zero}
+use lib.ListN.{length, getD, set, replicate, length-set, getD-replicate}
+use lib.Seq.{getD-set-same, getD-set-other}
+use Rattle.model.specs.declared.Job.{Job}
+use Rattle.model.specs.declared.Profile.{Profile}
+use Rattle.model.specs.Model.{noJob, entries, jobsOf, cost, ValidJob, ValidJobs, Valid, rate}
+use Rattle.model.proofs.Entries.{entries-step, entries-end}
+use Rattle.walk.specs.Walk.{leastNeeds}
+use Rattle.walk.specs.Arrays.{HoldsJob, HoldsJobs, Held, jobAt, Filled, first, second, SecondsFrom, PagesFrom, needsFrom, RatesFrom, StiffnessesFrom}
+use Rattle.walk.proofs.Bounds.{least-needs-bound}
+
+-- one entry more, in front
+filled-more : (place f : ℕ → ℕ) {k to : ℕ} (xs : List ℕ) (v : ℕ) → ((m : ℕ) → k ≤ m → (place m ≡ place (k - 1) → ⊥)) → place (k - 1) < length xs → v ≡ f (k - 1) → Filled place f k to xs → Filled place f (k - 1) to (set xs (place (k - 1)) v)
+filled-more place f {k} {to} xs v apart room is h m from less = go (ℕ-discrete m (k - 1))
+  where
+    go : Dec (m ≡ k - 1) → getD (set xs (place (k - 1)) v) (place m) 0 ≡ f m
+    go (yes e) = rw e (getD-set-same xs (place (k - 1)) v 0 room ∙ is)
+    go (no d) =
+        let on : k ≤ m = omega arith in
+        getD-set-other xs (place (k - 1)) (place m) v 0 (apart m on) ∙ h m on less
+
+-- an entry elsewhere
+filled-kept : (place f : ℕ → ℕ) {k to : ℕ} (xs : List ℕ) (at v : ℕ) → ((m : ℕ) → m < to → (place m ≡ at → ⊥)) → Filled place f k to xs → Filled place f k to (set xs at v)
+filled-kept place f {k} {to} xs at v apart h m from less = getD-set-other xs at (place m) v 0 (apart m less) ∙ h m from less
+
+valid-from : (js : List Job) (m i k : ℕ) → ValidJobs (entries noJob js i m) → i ≤ k → k < i + m → ValidJob (getD js k noJob)
+unfolding entries
+valid-from js zero i k h from less = absurd (omega arith)
+valid-from js (suc m) i k h from less = go (ℕ-discrete i k) (valid-from js m (i + 1) k (h .1))
+  where
+    go : Dec (i ≡ k) → (i + 1 ≤ k → k < i + 1 + m → ValidJob (getD js k noJob)) → ValidJob (getD js k noJob)
+    go (yes e) later = subst (λ (x : ℕ). ValidJob (getD js x noJob)) e (h .0)
+    go (no d) later = later (omega arith) (omega arith)
+
+entries-length : (js : List Job) (m i : ℕ) → length (entries noJob js i m) ≡ m
+unfolding entries
+entries-length js zero i = refl
+entries-length js (suc m) i = ap suc (entries-length js m (i + 1))
+
+-- what the jobs from the place before on need
+needs-step : (p : Profile) (k : ℕ) → 0 < k → k ≤ p .n → needsFrom p (k - 1) ≡ 3600 * cost (jobAt p (k - 1)) / jobAt p (k - 1) .hi .0 + needsFrom p k
+unfolding leastNeeds
+needs-step p k pos to =
+    let again : k - 1 + 1 ≡ k = omega arith in
+    ap leastNeeds (entries-step noJob (p .jobs) (k - 1) (p .n) (omega arith)) ∙ ap (λ (x : ℕ). 3600 * cost (jobAt p (k - 1)) / jobAt p (k - 1) .hi .0 + needsFrom p x) again
+
+pub needs-none : (p : Profile) → needsFrom p (p .n) ≡ 0
+unfolding leastNeeds
+needs-none p = ap leastNeeds (entries-end noJob (p .jobs) (p .n) (p .n) (omega arith))
+
+module _ {p : Profile} (v : Valid p) where
+  pub valid-at : (k : ℕ) → k < p .n → ValidJob (jobAt p k)
+  valid-at k less = valid-from (p .jobs) (p .n) 0 k (v .jobs) (omega arith) (omega arith)
+
+  valid-later : (m k : ℕ) → k + m ≡ p .n → ValidJobs (entries noJob (p .jobs) k m)
+  unfolding entries
+  valid-later zero k e = tt
+  valid-later (suc m) k e = (valid-at k (omega arith), valid-later m (k + 1) (omega arith))
+
+  pub needs-to : (k : ℕ) → k ≤ p .n → needsFrom p k ≤ 1887379200
+  needs-to k to =
+      let b = least-needs-bound (entries noJob (p .jobs) k (p .n - k)) (valid-later (p .n - k) k (omega arith)) in
+      let l = entries-length (p .jobs) (p .n - k) k in
+      let n≤ = v .n-to in
+      omega arith
+
+  pub seconds-none : SecondsFrom p (p .n) (replicate 16 0)
+  seconds-none = record { size = refl; shortest = λ m from less. absurd (omega arith); longest = λ m from less. absurd (omega arith) }
+
+  pub pages-none : PagesFrom p (p .n) (replicate 16 0)
+  pages-none = record { size = refl; for-need = λ m from less. absurd (omega arith); for-loss = λ m from less. absurd (omega arith) }
+
+  pub stiffnesses-none : StiffnessesFrom p (p .n) (replicate 8 0)
+  stiffnesses-none = record { size = refl; stiff = λ m from less. absurd (omega arith) }
+
+  pub rates-none : RatesFrom p (p .n) (replicate 17 0)
+  rates-none = record { size = refl; fastest = λ m from less. absurd (omega arith); needs = last }
+    where
+      last : Filled second (needsFrom p) (p .n) (p .n + 1) (replicate 17 0)
+      last k from less =
+          let n≤ = v .n-to in
+          let is : k ≡ p .n = omega arith in
+          getD-replicate 17 (8 + k) 0 0 (omega arith) ∙ sym (ap (needsFrom p) is ∙ needs-none p)
+
+  module _ (k : ℕ) (pos : 0 < k) (to : k ≤ p .n) where
+    -- two halves, one entry more in each
+    both-more : (f g : ℕ → ℕ) {end : ℕ} (xs : List ℕ) (a b : ℕ) → 16 ≤ length xs → a ≡ f (k - 1) → b ≡ g (k - 1) → Filled first f k (p .n) xs → Filled second g k end xs →
+        Filled first f (k - 1) (p .n) (set (set xs (k - 1) a) (8 + (k - 1)) b) × Filled second g (k - 1) end (set (set xs (k - 1) a) (8 + (k - 1)) b)
+    both-more f g {end} xs a b room is-a is-b h i =
+        let n≤ = v .n-to in
+        let one = set xs (k - 1) a in
+        let size₁ : length one ≡ length xs = length-set xs (k - 1) a in
+        let h₁ : Filled first f (k - 1) (p .n) one = filled-more first f xs a (λ m on. omega arith) (omega arith) is-a h in
+        let i₁ : Filled second g k end one = kept one refl in
+        (filled-kept first f one (8 + (k - 1)) b (λ m less. omega arith) h₁, filled-more second g one b (λ m on. omega arith) (omega arith) is-b i₁)
+      where
+        kept : (ys : List ℕ) → ys ≡ set xs (k - 1) a → Filled second g k end ys
+        kept ys e m from less = let n≤ = v .n-to in rw e (getD-set-other xs (k - 1) (8 + m) a 0 (λ d. omega arith) ∙ i m from less)
+
+    pub seconds-more : {xs : List ℕ} → SecondsFrom p k xs → SecondsFrom p (k - 1) (set (set xs (k - 1) (jobAt p (k - 1) .lo .0)) (8 + (k - 1)) (jobAt p (k - 1) .hi .0))
+    seconds-more {xs} s =
+        let size = s .size in
+        let b = both-more _ _ xs (jobAt p (k - 1) .lo .0) (jobAt p (k - 1) .hi .0) (omega arith) refl refl (s .shortest) (s .longest) in
+        record { size = length-set (set xs (k - 1) (jobAt p (k - 1) .lo .0)) (8 + (k - 1)) (jobAt p (k - 1) .hi .0) ∙ length-set xs (k - 1) (jobAt p (k - 1) .lo .0) ∙ size; shortest = b .0; longest = b .1 }
+
+    pub pages-more : {xs : List ℕ} (x y : ℕ) → x ≡ cost (jobAt p (k - 1)) → y ≡ cost (jobAt p (k - 1)) → PagesFrom p k xs → PagesFrom p (k - 1) (set (set xs (k - 1) x) (8 + (k - 1)) y)
+    pages-more {xs} x y is-x is-y s =
+        let size = s .size in
+        let b = both-more _ _ xs x y (omega arith) is-x is-y (s .for-need) (s .for-loss) in
+        record { size = length-set (set xs (k - 1) x) (8 + (k - 1)) y ∙ length-set xs (k - 1) x ∙ size; for-need = b .0; for-loss = b .1 }
+
+    pub stiffnesses-more : {xs : List ℕ} → StiffnessesFrom p k xs → StiffnessesFrom p (k - 1) (set xs (k - 1) (jobAt p (k - 1) .stiffness))
+    stiffnesses-more {xs} s =
+        let n≤ = v .n-to in
+        let size = s .size in
+        record { size = length-set xs (k - 1) (jobAt p (k - 1) .stiffness) ∙ size; stiff = filled-more first _ xs (jobAt p (k - 1) .stiffness) (λ m on. omega arith) (omega arith) refl (s .stiff) }
+
+    module _ (x y needs : ℕ) (is-x : x ≡ cost (jobAt p (k - 1))) (is-y : y ≡ cost (jobAt p (k - 1))) (had : needs ≡ needsFrom p k) where
+      pub needs-more : 3600 * y / jobAt p (k - 1) .hi .0 + needs ≡ needsFrom p (k - 1)
+      needs-more = ap₂ (λ (a b : ℕ). 3600 * a / jobAt p (k - 1) .hi .0 + b) is-y had ∙ sym (needs-step p k pos to)
+
+      pub rates-more : {xs : List ℕ} → RatesFrom p k xs → RatesFrom p (k - 1) (set (set xs (k - 1) (3600 * x / jobAt p (k - 1) .lo .0)) (8 + (k - 1)) (3600 * y / jobAt p (k - 1) .hi .0 + needs))
+      unfolding rate
+      rates-more {xs} s =
+          let size = s .size in
+          let a = 3600 * x / jobAt p (k - 1) .lo .0 in
+          let c = 3600 * y / jobAt p (k - 1) .hi .0 + needs in
+          let b = both-more _ _ xs a c (omega arith) (ap (λ (z : ℕ). 3600 * z / jobAt p (k - 1) .lo .0) is-x) needs-more (s .fastest) (s .needs) in
+          record { size = length-set (set xs (k - 1) a) (8 + (k - 1)) c ∙ length-set xs (k - 1) a ∙ size; fastest = b .0; needs = b .1 }
+
+  -- all four arrays together hold the jobs
+  module _ {spans runs rates weights : List ℕ} (s : SecondsFrom p 0 spans) (g : PagesFrom p 0 runs) (r : RatesFrom p 0 rates) (w : StiffnessesFrom p 0 weights) where
+    holds-from : (m i : ℕ) → i + m ≡ p .n → HoldsJobs spans runs rates weights i (entries noJob (p .jobs) i m)
+    unfolding entries
+    holds-from zero i e = tt
+    holds-from (suc m) i e = (here, holds-from m (i + 1) (omega arith))
+      where
+        rest : p .n - (i + 1) ≡ m
+        rest = omega arith
+
+        here : HoldsJob spans runs rates weights i (jobAt p i) (entries noJob (p .jobs) (i + 1) m)
+        here =
+            let less : i < p .n = omega arith in
+            let from : 0 ≤ i = omega arith in
+            record {
+              valid = valid-at i less;
+              shortest = s .shortest i from less;
+              longest = s .longest i from less;
+              for-need = g .for-need i from less;
+              for-loss = g .for-loss i from less;
+              fastest = r .fastest i from less;
+              later = r .needs (i + 1) (omega arith) (omega arith) ∙ ap (λ (x : ℕ). leastNeeds (entries noJob (p .jobs) (i + 1) x)) rest;
+              stiff = w .stiff i from less;
+            }
+
+    pub all-held : Held spans runs rates weights 0 (p .n) (jobsOf p)
+    all-held =
+        let l = entries-length (p .jobs) (p .n) 0 in
+        record {
+          count = omega arith;
+          most = v .n-to;
+          needs = r .needs 0 (omega arith) (omega arith) ∙ ap (λ (x : ℕ). leastNeeds (entries noJob (p .jobs) 0 x)) (sub-zero (p .n));
+          jobs = holds-from (p .n) 0 (omega arith);
+        }

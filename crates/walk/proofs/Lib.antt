@@ -1,0 +1,13 @@
+pub mod Sorted
+pub mod Chains
+pub mod Falling
+pub mod Pages
+pub mod Floors
+pub mod Walk
+pub mod Loops
+pub mod Bounds
+pub mod Numbers
+pub mod Held
+pub mod FloorTurn
+pub mod Cuts
+pub mod Filled

@@ -1,0 +1,73 @@
+-- How a profile's numbers stand in the arrays that the walks are lent: `spans` in seconds, `runs` in pages of a run, `rates` in
+-- pages per hour, `weights` for the stiffnesses. The contracts of private functions cite this, and no public one.
+-- Assumes nothing.
+use mathlib.Core.Path.{_≡_}
+use mathlib.Core.List.{List, [], _∷_}
+use Prim.Native.Nat.{ℕ, _+_, _-_, _≤_, _<_}
+use lib.ListN.{length, getD}
+use Rattle.model.specs.declared.Job.{Job}
+use Rattle.model.specs.declared.Profile.{Profile}
+use Rattle.model.specs.Model.{noJob, entries, cost, ValidJob, rate}
+use Rattle.walk.specs.Walk.{leastNeeds}
+
+-- The job at place k of a profile.
+abbrev pub jobAt : Profile → ℕ → Job
+jobAt p k = getD (p .jobs) k noJob
+
+-- Entries number `from` to `to` of an array, the k-th of which stands at `place k`, are those of f.
+abbrev pub Filled : (ℕ → ℕ) → (ℕ → ℕ) → ℕ → ℕ → List ℕ → Type 0
+Filled place f from to xs = (k : ℕ) → from ≤ k → k < to → getD xs (place k) 0 ≡ f k
+
+abbrev pub first : ℕ → ℕ
+first k = k
+
+abbrev pub second : ℕ → ℕ
+second k = 8 + k
+
+-- The four arrays of a profile, as far as they are made when jobs from place k on are in.
+pub record SecondsFrom (p : Profile) (k : ℕ) (xs : List ℕ) : Type 0 where
+  pub size : length xs ≡ 16
+  pub shortest : Filled first (λ m. jobAt p m .lo .0) k (p .n) xs
+  pub longest : Filled second (λ m. jobAt p m .hi .0) k (p .n) xs
+
+pub record PagesFrom (p : Profile) (k : ℕ) (xs : List ℕ) : Type 0 where
+  pub size : length xs ≡ 16
+  pub for-need : Filled first (λ m. cost (jobAt p m)) k (p .n) xs
+  pub for-loss : Filled second (λ m. cost (jobAt p m)) k (p .n) xs
+
+-- What the jobs from place k on need at least.
+abbrev pub needsFrom : Profile → ℕ → ℕ
+needsFrom p k = leastNeeds (entries noJob (p .jobs) k (p .n - k))
+
+pub record RatesFrom (p : Profile) (k : ℕ) (xs : List ℕ) : Type 0 where
+  pub size : length xs ≡ 17
+  pub fastest : Filled first (λ m. rate (jobAt p m) (jobAt p m .lo) .0) k (p .n) xs
+  pub needs : Filled second (needsFrom p) k (p .n + 1) xs
+
+pub record StiffnessesFrom (p : Profile) (k : ℕ) (xs : List ℕ) : Type 0 where
+  pub size : length xs ≡ 8
+  pub stiff : Filled first (λ m. jobAt p m .stiffness) k (p .n) xs
+
+module _ (spans runs rates weights : List ℕ) where
+  -- The numbers of the job j, which the jobs js follow, stand at place i: its interval, the pages of a run for need and
+  -- for loss, its rate at the shortest period, what the jobs after it need at least, its stiffness.
+  pub record HoldsJob (i : ℕ) (j : Job) (js : List Job) : Type 0 where
+    pub valid : ValidJob j
+    pub shortest : getD spans i 0 ≡ j .lo .0
+    pub longest : getD spans (8 + i) 0 ≡ j .hi .0
+    pub for-need : getD runs i 0 ≡ cost j
+    pub for-loss : getD runs (8 + i) 0 ≡ cost j
+    pub fastest : getD rates i 0 ≡ rate j (j .lo) .0
+    pub later : getD rates (8 + (i + 1)) 0 ≡ leastNeeds js
+    pub stiff : getD weights i 0 ≡ j .stiffness
+
+  abbrev pub HoldsJobs : ℕ → List Job → Type 0
+  HoldsJobs i [] = Unit {0}
+  HoldsJobs i (j ∷ js) = HoldsJob i j js × HoldsJobs (i + 1) js
+
+  -- The arrays hold the jobs js, from place i to place n.
+  pub record Held (i n : ℕ) (js : List Job) : Type 0 where
+    pub count : i + length js ≡ n
+    pub most : n ≤ 8
+    pub needs : getD rates (8 + i) 0 ≡ leastNeeds js
+    pub jobs : HoldsJobs i js

@@ -1,0 +1,4 @@
+pub mod Chains
+pub mod Walk
+pub mod Arrays
+pub mod Steps

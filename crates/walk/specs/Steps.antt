@@ -1,0 +1,72 @@
+-- What the functions that every walk shares ask and promise. Contracts of inner functions cite this, and no public one.
+-- Assumes nothing.
+use mathlib.Core.Path.{_≡_}
+use mathlib.Core.List.{List, [], map}
+use Prim.Native.Nat.{ℕ, _+_, _*_, _-_, _/_, _^_, _≤_, _<_}
+use lib.ListN.{getD, take}
+use Rattle.model.specs.declared.Seconds.{Seconds}
+use Rattle.model.specs.declared.Job.{Job}
+use Rattle.model.specs.Model.{seconds, roundUp}
+use Rattle.walk.specs.Walk.{node, Bounded, lossFloor}
+use Rattle.walk.specs.Arrays.{Held}
+
+-- A job's loss at a period, from its numbers: stiffness, rate at the shortest period, pages of a run.
+unfoldable pub lossAt : ℕ → ℕ → ℕ → ℕ → ℕ
+lossAt w most c t = w * (most - 3600 * c / t) ^ 2
+
+-- The numbers for which that fits 64 bits.
+pub record LossFits (w most c t : ℕ) : Type 0 where
+  pub weight-to : w ≤ 32
+  pub most-to : most ≤ 235922400
+  pub pages-to : c ≤ 65534
+  pub from : 1 ≤ t
+  pub slower : 3600 * c / t ≤ most
+
+-- The need of a plan that writes this much in this time.
+unfoldable pub needAt : ℕ → Seconds → ℕ
+needAt written t = roundUp (3600 * written) (t .0)
+
+-- A period, and what is written in it, for which that fits.
+pub record NeedFits (written : ℕ) (t : Seconds) : Type 0 where
+  pub from : 1 ≤ t .0
+  pub to : t .0 ≤ 3600
+  pub written-to : written ≤ 524272 * t .0
+
+-- The intervals from place i to place n end within the hour, and t is a period.
+pub record Ends (spans : List ℕ) (i n : ℕ) (t : Seconds) : Type 0 where
+  pub most : n ≤ 8
+  pub from : 1 ≤ t .0
+  pub to : (k : ℕ) → i ≤ k → k < n → getD spans (8 + k) 0 ≤ 3600
+
+-- The interval at some place from i to n holds no multiple of t.
+abbrev pub Unreached : List ℕ → ℕ → ℕ → Seconds → Type 0
+Unreached spans i n t = (k : ℕ) × (i ≤ k) × (k < n) × (getD spans (8 + k) 0 / t .0 * t .0 < getD spans k 0)
+
+module _ (spans runs rates weights : List ℕ) where
+  -- Some jobs are so held, and t is a period.
+  pub record Later (i n : ℕ) (t : Seconds) : Type 0 where
+    pub js : List Job
+    pub held : Held spans runs rates weights i n js
+    pub from : 1 ≤ t .0
+
+  -- Some jobs are so held, and a node of i jobs stands before them.
+  pub record Ready (i n : ℕ) (t : Seconds) (written lost : ℕ) : Type 0 where
+    pub js : List Job
+    pub held : Held spans runs rates weights i n js
+    pub from : 1 ≤ t .0
+    pub to : t .0 ≤ 3600
+    pub bounded : Bounded i (node t written lost [])
+
+  -- r is the loss floor of the jobs from place i on.
+  abbrev pub IsLossFloor : ℕ → ℕ → Seconds → ℕ → Type 0
+  IsLossFloor i n t r = (js : List Job) → Held spans runs rates weights i n js → r ≡ lossFloor js (t .0)
+
+-- A node of i jobs stands before some jobs; what else than their intervals and least needs is held of them does not matter here.
+pub record ReadyForCut (spans rates : List ℕ) (i n : ℕ) (t : Seconds) (written : ℕ) : Type 0 where
+  pub runs : List ℕ
+  pub weights : List ℕ
+  pub ready : Ready spans runs rates weights i n t written 0
+
+-- The first i periods.
+abbrev pub periodsIn : ℕ → List ℕ → List Seconds
+periodsIn i ps = map seconds (take i ps)

@@ -1,0 +1,78 @@
+-- The walk over all permitted lists, without its cuts, and the floors that allow the cuts. No public contract cites this.
+-- Assumes nothing.
+use mathlib.Core.List.{List, [], _∷_, _++_}
+use Prim.Native.Nat.{ℕ, _+_, _*_, _/_, _≤_, max}
+use Rattle.model.specs.declared.Seconds.{Seconds}
+use Rattle.model.specs.declared.Job.{Job}
+use Rattle.model.specs.Model.{seconds, cost, roundUp, lastOf, jobLoss}
+use Rattle.model.proofs.Bounds.{mostLoss}
+use Rattle.walk.specs.Chains.{risingFrom, multiples, fallingFrom, multiplesDown}
+
+-- The pages in Tn seconds, where jobs before these write `pages` in `before` seconds.
+unfoldable pub pagesAfter : ℕ → Seconds → List Job → List Seconds → ℕ
+pagesAfter pages before [] ts = pages
+pagesAfter pages before (j ∷ js) [] = pages
+pagesAfter pages before (j ∷ js) (t ∷ ts) = pagesAfter (pages * (t .0 / before .0) + cost j) t js ts
+
+-- The need of a plan so completed: its hourly pages, rounded up.
+unfoldable pub needAfter : ℕ → Seconds → List Job → List Seconds → ℕ
+needAfter pages before js ts = roundUp (3600 * pagesAfter pages before js ts) (lastOf before ts .0)
+
+-- What these jobs lose at least when every period is at least `t`.
+unfoldable pub lossFloor : List Job → ℕ → ℕ
+lossFloor [] t = 0
+lossFloor (j ∷ js) t = jobLoss j (seconds (max (j .lo .0) t)) + lossFloor js t
+
+-- What these jobs need at least.
+unfoldable pub leastNeeds : List Job → ℕ
+leastNeeds [] = 0
+leastNeeds (j ∷ js) = 3600 * cost j / j .hi .0 + leastNeeds js
+
+-- What a plan needs at least, whose jobs before these write `pages` in `before` seconds.
+unfoldable pub needFloor : ℕ → Seconds → List Job → ℕ
+needFloor pages before js = roundUp (3600 * pages) (before .0) + leastNeeds js
+
+-- Each entry in turn changes what was had before it.
+unfoldable pub visit : {A B : Type 0} → (B → A → A) → A → List B → A
+visit f acc [] = acc
+visit f acc (x ∷ xs) = visit f (f x acc) xs
+
+-- A part of a plan: the last period, the pages in that many seconds, the loss so far, the periods so far.
+pub record Node : Type 0 where
+  pub before : Seconds
+  pub pages : ℕ
+  pub lost : ℕ
+  pub periods : List Seconds
+
+abbrev pub node : Seconds → ℕ → ℕ → List Seconds → Node
+node before pages lost periods = record { before = before; pages = pages; lost = lost; periods = periods }
+
+abbrev pub start : Node
+start = record { before = seconds 1; pages = 0; lost = 0; periods = [] }
+
+-- The part with one more job, at period `t`.
+abbrev pub next : Job → Node → Seconds → Node
+next j n t = record { before = t; pages = n .pages * (t .0 / n .before .0) + cost j; lost = n .lost + jobLoss j t; periods = n .periods ++ (t ∷ []) }
+
+-- Job by job through the periods that `order` lists; each whole plan, its need and its loss go to `f`.
+unfoldable pub walkBy : {A : Type 0} → (Seconds → Job → List Seconds) → (ℕ → ℕ → List Seconds → A → A) → List Job → Node → A → A
+walkBy order f [] n acc = f (roundUp (3600 * n .pages) (n .before .0)) (n .lost) (n .periods) acc
+walkBy order f (j ∷ js) n acc = visit (λ t. walkBy order f js (next j n t)) acc (order (n .before) j)
+
+abbrev pub walk : {A : Type 0} → (ℕ → ℕ → List Seconds → A → A) → List Job → Node → A → A
+walk = walkBy multiples
+
+abbrev pub walkDown : {A : Type 0} → (ℕ → ℕ → List Seconds → A → A) → List Job → Node → A → A
+walkDown = walkBy multiplesDown
+
+-- The rest of the loop over a job's multiples: from `t` up, or from `t` down.
+unfoldable pub walkFrom : {A : Type 0} → (ℕ → ℕ → List Seconds → A → A) → Job → List Job → Node → ℕ → A → A
+walkFrom f j js n t acc = visit (λ u. walk f js (next j n u)) acc (risingFrom (n .before) (j .hi) t)
+
+unfoldable pub walkDownFrom : {A : Type 0} → (ℕ → ℕ → List Seconds → A → A) → Job → List Job → Node → ℕ → A → A
+walkDownFrom f j js n t acc = visit (λ u. walkDown f js (next j n u)) acc (fallingFrom (n .before) (j .lo) t)
+
+-- A node of i jobs: its pages and its loss.
+pub record Bounded (i : ℕ) (n : Node) : Type 0 where
+  pub pages-to : n .pages ≤ 65534 * i * n .before .0
+  pub lost-to : n .lost ≤ mostLoss * i

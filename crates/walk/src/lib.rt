@@ -1,0 +1,161 @@
+// What every walk through the permitted lists shares: a profile's numbers as arrays, made once and lent, and the floors by
+// which a walk is cut.
+//
+// specs/Chains.antt and specs/Walk.antt say what the walk is without its cuts, and proofs/ hold its laws, whatever a walk
+// keeps as it goes. specs/Arrays.antt and specs/Steps.antt say what these functions ask and promise; they serve other
+// crates of the planner, and their callers meet what they require. Nothing is assumed.
+use model::Job;
+use model::PagesPerHour;
+use model::Profile;
+use model::Seconds;
+ghost use mathlib.Core.Path.{_≡_};
+ghost use mathlib.Core.Bool.{false};
+ghost use Prim.Native.Nat.{max};
+ghost use Rattle.model.specs.Model.{pagesPerHour, cost, Valid, ValidJob};
+ghost use Rattle.walk.specs.Arrays.{SecondsFrom, PagesFrom, RatesFrom, StiffnessesFrom};
+ghost use Rattle.walk.specs.Steps.{lossAt, LossFits, needAt, NeedFits, Ends, Unreached, Later, IsLossFloor};
+
+// The shortest periods of the jobs, then the longest.
+pub fn seconds_of(p: Profile) -> [u32; 16]
+    requires { ⌜ Valid p ⌝ }
+    ensures { λ r. ⌜ SecondsFrom p 0 r ⌝ }
+{
+    let mut seconds = [0u32; 16];
+    let mut k = p.n as usize;
+    while 0 < k {
+        k -= 1;
+        let j = p.jobs[k];
+        seconds[k] = j.lo.0;
+        seconds[8 + k] = j.hi.0;
+    }
+    seconds
+}
+
+// The pages of a run that need counts, then those that loss counts.
+pub fn pages_of(p: Profile) -> [u32; 16]
+    requires { ⌜ Valid p ⌝ }
+    ensures { λ r. ⌜ PagesFrom p 0 r ⌝ }
+{
+    let mut pages = [0u32; 16];
+    let mut k = p.n as usize;
+    while 0 < k {
+        k -= 1;
+        let j = p.jobs[k];
+        pages[k] = need_pages(j);
+        pages[8 + k] = loss_pages(j);
+    }
+    pages
+}
+
+// The rates at the shortest periods, then what the jobs from each place on need at least.
+pub fn rates_of(p: Profile) -> [u32; 17]
+    requires { ⌜ Valid p ⌝ }
+    ensures { λ r. ⌜ RatesFrom p 0 r ⌝ }
+{
+    let mut rates = [0u32; 17];
+    let mut needs: u32 = 0;
+    let mut k = p.n as usize;
+    while 0 < k {
+        k -= 1;
+        let j = p.jobs[k];
+        rates[k] = 3600 * loss_pages(j) / j.lo.0;
+        needs = 3600 * need_pages(j) / j.hi.0 + needs;
+        rates[8 + k] = needs;
+    }
+    rates
+}
+
+// The stiffnesses of the jobs.
+pub fn stiffnesses_of(p: Profile) -> [u32; 8]
+    requires { ⌜ Valid p ⌝ }
+    ensures { λ r. ⌜ StiffnessesFrom p 0 r ⌝ }
+{
+    let mut stiffnesses = [0u32; 8];
+    let mut k = p.n as usize;
+    while 0 < k {
+        k -= 1;
+        let j = p.jobs[k];
+        stiffnesses[k] = j.stiffness;
+    }
+    stiffnesses
+}
+
+// The pages of a run, as need counts them and as loss counts them.
+fn need_pages(j: Job) -> u32
+    requires { ⌜ ValidJob j ⌝ }
+    ensures { λ r. ⌜ r ≡ cost j ⌝ }
+{
+    j.data + j.metadata
+}
+
+fn loss_pages(j: Job) -> u32
+    requires { ⌜ ValidJob j ⌝ }
+    ensures { λ r. ⌜ r ≡ cost j ⌝ }
+{
+    j.data + j.metadata
+}
+
+// The lowest loss that jobs i to n can come to when no period is shorter than t.
+pub fn loss_floor(
+    seconds: &[u32; 16],
+    pages: &[u32; 16],
+    rates: &[u32; 17],
+    stiffnesses: &[u32; 8],
+    i: usize,
+    n: usize,
+    t: Seconds,
+) -> u64
+    requires { ⌜ Later (now seconds) (now pages) (now rates) (now stiffnesses) i n t ⌝ }
+    ensures { λ r. ⌜ IsLossFloor (now (seconds .entry)) (now (pages .entry)) (now (rates .entry)) (now (stiffnesses .entry)) i n t r ⌝ }
+{
+    let mut floor: u64 = 0;
+    let mut k = n;
+    while i < k {
+        k -= 1;
+        let u = longer(Seconds(seconds[k]), t);
+        floor = job_loss(stiffnesses[k], PagesPerHour(rates[k]), pages[8 + k], u) + floor;
+    }
+    floor
+}
+
+// What a job loses at period t against its shortest.
+pub fn job_loss(stiffness: u32, fastest: PagesPerHour, pages: u32, t: Seconds) -> u64
+    requires { ⌜ LossFits stiffness (fastest .0) pages (t .0) ⌝ }
+    ensures { λ r. ⌜ r ≡ lossAt stiffness (fastest .0) pages (t .0) ⌝ }
+{
+    let slower = (fastest.0 - 3600 * pages / t.0) as u64;
+    (stiffness as u64) * (slower * slower)
+}
+
+// Whether each of the jobs i to n has a multiple of t in its interval.
+pub fn reaches(seconds: &[u32; 16], i: usize, n: usize, t: Seconds) -> bool
+    requires { ⌜ Ends (now seconds) i n t ⌝ }
+    ensures { λ r. ⌜ (r ≡ false → Unreached (now (seconds .entry)) i n t) ⌝ }
+{
+    let mut k = i;
+    while k < n {
+        if seconds[8 + k] / t.0 * t.0 < seconds[k] {
+            return false;
+        }
+        k += 1;
+    }
+    true
+}
+
+// The need of a plan that writes so many pages in t seconds.
+pub fn need_of(written: u64, t: Seconds) -> PagesPerHour
+    requires { ⌜ NeedFits written t ⌝ }
+    ensures { λ r. ⌜ r ≡ pagesPerHour (needAt written t) ⌝ }
+{
+    let span = t.0 as u64;
+    PagesPerHour(((3600 * written + (span - 1)) / span) as u32)
+}
+
+fn longer(a: Seconds, b: Seconds) -> Seconds
+    ensures { λ r. ⌜ r .0 ≡ max (a .0) (b .0) ⌝ }
+{
+    if a.0 < b.0 {
+        return b;
+    }
+    a
+}
