@@ -23,10 +23,10 @@ use Rattle.table.proofs.Descent.{descent-table, no-rows}
 abbrev pub rowsOf : Profile → List (List Seconds)
 rowsOf p = rowsBelow (jobsOf p) allBudgets
 
-are-rows : (p : Profile) → verdictOf p ≡ Sound → TableOf (jobsOf p) (rowsOf p)
+pub are-rows : (p : Profile) → verdictOf p ≡ Sound → TableOf (jobsOf p) (rowsOf p)
 are-rows p e = descent-table (jobsOf p) (sound-valid p e .jobs)
 
-none-of : (p : Profile) → verdictOf p ≡ Sound → (length (rowsOf p) ≡ 0) ↔ ((ts : List Seconds) → Permitted (jobsOf p) ts → ⊥)
+pub none-of : (p : Profile) → verdictOf p ≡ Sound → (length (rowsOf p) ≡ 0) ↔ ((ts : List Seconds) → Permitted (jobsOf p) ts → ⊥)
 none-of p e =
     let v = sound-valid p e in
     no-rows (jobsOf p) (v .jobs) (omega (arith, length-entries noJob (p .jobs) 0 (p .n))) (are-rows p e)

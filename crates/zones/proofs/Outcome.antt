@@ -23,7 +23,7 @@ use Rattle.zones.proofs.Listing.{listing-is}
 abbrev pub zonesOf : Profile → List Zone
 zonesOf p = zonesFor (jobsOf p)
 
-are-zones : (p : Profile) → verdictOf p ≡ Sound → ZonesOf (jobsOf p) (zonesOf p)
+pub are-zones : (p : Profile) → verdictOf p ≡ Sound → ZonesOf (jobsOf p) (zonesOf p)
 are-zones p e =
     let v = sound-valid p e in
     listing-is (jobsOf p) (omega (arith, length-entries noJob (p .jobs) 0 (p .n))) (v .jobs)

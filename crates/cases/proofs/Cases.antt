@@ -1,0 +1,182 @@
+-- Document 01's numbers as one list: an entry says what is asked, of which profile, and what must come out.
+-- Assumes nothing.
+use mathlib.Core.Path.{_≡_}
+use mathlib.Core.List.{List, [], _∷_, _++_, map}
+use Prim.Native.Nat.{ℕ, _+_, _*_, _-_, _/_, _≤_}
+use lib.ListN.{length, take, drop, replicate}
+use Rattle.model.specs.declared.Seconds.{Seconds}
+use Rattle.model.specs.declared.Job.{Job}
+use Rattle.model.specs.declared.Profile.{Profile}
+use Rattle.model.specs.declared.Counted.{Counted}
+use Rattle.model.specs.declared.Verdict.{Verdict}
+use Rattle.model.specs.declared.Verdict.the-variants.{Sound, NoPeriods, Budget, Row}
+use Rattle.model.specs.Model.{seconds, pagesPerHour}
+use Rattle.score.specs.declared.Scored.{Scored}
+use Rattle.score.specs.Scoring.{Scores}
+use Rattle.choose.specs.declared.Choice.{Choice}
+use Rattle.choose.specs.Choice.{padded, refused, Chosen}
+use Rattle.zones.specs.Zones.{Listed}
+use Rattle.table.specs.Table.{Built}
+use Rattle.lookup.specs.Lookup.{LooksUp, Locates, Tells}
+
+-- What is asked of a profile, then what must come out: the answer, and the bytes of the rows written or of the row handed back.
+pub data Case : Type 0 where
+  choosing : Profile → (budget : ℕ) → Choice → Case
+  scoring : Profile → (periods : List Seconds) → Scored → Case
+  listing : Profile → Counted → (bytes : List ℕ) → Case
+  building : Profile → Counted → (bytes : List ℕ) → Case
+  lookingUp : Profile → (table : List ℕ) (budget : ℕ) → Counted → (bytes : List ℕ) → Case
+
+-- Whatever the public contract allows is what must come out; zones and table are written into any room that is enough.
+abbrev pub Right : Case → Type 0
+Right (choosing p b answer) = (r : Choice) → Chosen p (pagesPerHour b) r → r ≡ answer
+Right (scoring p ts answer) = (r : Scored) → Scores p ts r → r ≡ answer
+Right (listing p answer bytes) =
+    (old : List ℕ) → answer .count ≤ length old / 16 → (r : Counted) (new : List ℕ) → Listed p old r new → (r ≡ answer) × (new ≡ bytes ++ drop (16 * answer .count) old)
+Right (building p answer bytes) =
+    (old : List ℕ) → answer .count ≤ length old / 16 → (r : Counted) (new : List ℕ) → Built p old r new → (r ≡ answer) × (new ≡ bytes ++ drop (16 * answer .count) old)
+Right (lookingUp p table b answer bytes) =
+    ((r : Counted) → Locates p table (pagesPerHour b) r → r ≡ answer)
+    × ((v : Verdict) → Tells p table (pagesPerHour b) v → v ≡ answer .verdict)
+    × ((lies at : ℕ × ℕ) (part : List ℕ) → LooksUp p table lies (pagesPerHour b) part at → (part ≡ bytes) × (at ≡ (lies .0, lies .1 + 16 * (answer .count - 1))))
+
+abbrev job : ℕ → ℕ → ℕ → ℕ → ℕ → Job
+job lo hi d g w = record { lo = seconds lo; hi = seconds hi; «data» = d; metadata = g; stiffness = w }
+
+-- where only c = 1 is given
+abbrev interval : ℕ → ℕ → Job
+interval lo hi = job lo hi 1 0 1
+
+-- beyond the jobs stand others that would be refused
+abbrev profile : List Job → Profile
+profile js = record { n = length js; jobs = js ++ replicate (8 - length js) (job 9 3 99999 99999 77) }
+
+abbrev profileA : Profile
+profileA = profile (job 20 25 9 1 1 ∷ job 43 74 18 2 1 ∷ job 45 100 36 4 1 ∷ [])
+
+abbrev eight : List ℕ → List Seconds
+eight ts = padded (map seconds ts)
+
+abbrev plan : ℕ → ℕ → List ℕ → Choice
+plan q l ts = record { verdict = Sound; periods = eight ts; need = pagesPerHour q; loss = l }
+
+abbrev scored : ℕ → ℕ → Scored
+scored q l = record { verdict = Sound; need = pagesPerHour q; loss = l }
+
+abbrev below : ℕ → Verdict
+below m = Budget (pagesPerHour m)
+
+-- the number of rows, or of the row that answers
+abbrev number : ℕ → Counted
+number k = record { verdict = Sound; count = k }
+
+abbrev noNumber : Verdict → Counted
+noNumber v = record { verdict = v; count = 0 }
+
+-- rows of sixteen bytes: those given, then zeros
+abbrev rows : List (List ℕ) → List ℕ
+rows [] = []
+rows (bytes ∷ more) = bytes ++ (replicate (16 - length bytes) 0 ++ rows more)
+
+-- A's table: at 4,320, 4,500, 5,143 and 5,400, and whole
+abbrev row₁ : List ℕ
+row₁ = 0x00 ∷ 0x00 ∷ 0x10 ∷ 0xE0 ∷ 0x01 ∷ 0x90 ∷ 0x32 ∷ 0x06 ∷ 0x40 ∷ []
+
+abbrev row₂ : List ℕ
+row₂ = 0x00 ∷ 0x00 ∷ 0x11 ∷ 0x94 ∷ 0x01 ∷ 0x80 ∷ 0x48 ∷ 0x04 ∷ 0x80 ∷ []
+
+abbrev row₅ : List ℕ
+row₅ = 0x00 ∷ 0x00 ∷ 0x14 ∷ 0x17 ∷ 0x01 ∷ 0x50 ∷ 0x3F ∷ 0x03 ∷ 0xF0 ∷ []
+
+abbrev row₆ : List ℕ
+row₆ = 0x00 ∷ 0x00 ∷ 0x15 ∷ 0x18 ∷ 0x01 ∷ 0x40 ∷ 0x3C ∷ 0x03 ∷ 0xC0 ∷ []
+
+abbrev tableA : List ℕ
+tableA =
+    rows
+    (row₁
+    ∷ row₂
+    ∷ (0x00 ∷ 0x00 ∷ 0x12 ∷ 0x58 ∷ 0x01 ∷ 0x70 ∷ 0x45 ∷ 0x04 ∷ 0x50 ∷ [])
+    ∷ (0x00 ∷ 0x00 ∷ 0x13 ∷ 0x2E ∷ 0x01 ∷ 0x60 ∷ 0x42 ∷ 0x04 ∷ 0x20 ∷ [])
+    ∷ row₅
+    ∷ row₆
+    ∷ (0x00 ∷ 0x00 ∷ 0x16 ∷ 0x80 ∷ 0x01 ∷ 0x90 ∷ 0x32 ∷ 0x03 ∷ 0x20 ∷ [])
+    ∷ (0x00 ∷ 0x00 ∷ 0x17 ∷ 0x70 ∷ 0x01 ∷ 0x80 ∷ 0x30 ∷ 0x03 ∷ 0x00 ∷ [])
+    ∷ (0x00 ∷ 0x00 ∷ 0x18 ∷ 0x75 ∷ 0x01 ∷ 0x70 ∷ 0x2E ∷ 0x02 ∷ 0xE0 ∷ [])
+    ∷ [])
+
+-- A's zones: (1,2,2) for 23 to 25, (1,2,4) for 22 to 25, (1,3,3) for 20 to 24
+abbrev zonesA : List ℕ
+zonesA =
+    rows
+    ((0x01 ∷ 0x70 ∷ 0x19 ∷ 0x00 ∷ 0x20 ∷ 0x02 ∷ [])
+    ∷ (0x01 ∷ 0x60 ∷ 0x19 ∷ 0x00 ∷ 0x20 ∷ 0x04 ∷ [])
+    ∷ (0x01 ∷ 0x40 ∷ 0x18 ∷ 0x00 ∷ 0x30 ∷ 0x03 ∷ [])
+    ∷ [])
+
+-- (1,2,2) for 10, (1,2,4) for 6 to 10, (1,2,6) for 6, (1,3,3) for 7, (1,3,6) for 6
+abbrev fiveZones : List ℕ
+fiveZones =
+    rows
+    ((0x00 ∷ 0xA0 ∷ 0x0A ∷ 0x00 ∷ 0x20 ∷ 0x02 ∷ [])
+    ∷ (0x00 ∷ 0x60 ∷ 0x0A ∷ 0x00 ∷ 0x20 ∷ 0x04 ∷ [])
+    ∷ (0x00 ∷ 0x60 ∷ 0x06 ∷ 0x00 ∷ 0x20 ∷ 0x06 ∷ [])
+    ∷ (0x00 ∷ 0x70 ∷ 0x07 ∷ 0x00 ∷ 0x30 ∷ 0x03 ∷ [])
+    ∷ (0x00 ∷ 0x60 ∷ 0x06 ∷ 0x00 ∷ 0x30 ∷ 0x06 ∷ [])
+    ∷ [])
+
+unfoldable pub cases : List Case
+cases =
+    -- P1
+    choosing profileA 4319 (refused (below 4320))
+    ∷ lookingUp profileA tableA 4319 (noNumber (below 4320)) []
+    -- P2
+    ∷ choosing profileA 4320 (plan 4320 3281956 (25 ∷ 50 ∷ 100 ∷ []))
+    ∷ lookingUp profileA tableA 4320 (number 1) (rows (row₁ ∷ []))
+    -- P3
+    ∷ choosing profileA 5399 (plan 5143 1127645 (21 ∷ 63 ∷ 63 ∷ []))
+    ∷ lookingUp profileA tableA 5399 (number 5) (rows (row₅ ∷ []))
+    -- P4
+    ∷ choosing profileA 5400 (plan 5400 864676 (20 ∷ 60 ∷ 60 ∷ []))
+    ∷ lookingUp profileA tableA 5400 (number 6) (rows (row₆ ∷ []))
+    -- the table that they were looked up in
+    ∷ building profileA (number 9) tableA
+    -- P5
+    ∷ listing profileA (number 3) zonesA
+    -- P6: the one zone, (1,5,35) for 1, holds every permitted list
+    ∷ choosing (profile (interval 1 1 ∷ interval 2 6 ∷ interval 35 35 ∷ [])) 0xffff_ffff (plan 4423 1166400 (1 ∷ 5 ∷ 35 ∷ []))
+    ∷ listing (profile (interval 1 1 ∷ interval 2 6 ∷ interval 35 35 ∷ [])) (number 1) (rows ((0x00 ∷ 0x10 ∷ 0x01 ∷ 0x00 ∷ 0x50 ∷ 0x23 ∷ []) ∷ []))
+    -- P7
+    ∷ choosing (profile (interval 1 1 ∷ interval 2 4 ∷ interval 35 35 ∷ [])) 0xffff_ffff (refused NoPeriods)
+    ∷ listing (profile (interval 1 1 ∷ interval 2 4 ∷ interval 35 35 ∷ [])) (noNumber NoPeriods) []
+    ∷ building (profile (interval 1 1 ∷ interval 2 4 ∷ interval 35 35 ∷ [])) (noNumber NoPeriods) []
+    -- P8
+    ∷ choosing (profile (interval 7 7 ∷ [])) 514 (refused (below 515))
+    ∷ choosing (profile (interval 7 7 ∷ [])) 515 (plan 515 0 (7 ∷ []))
+    -- P9
+    ∷ scoring (profile (interval 7 7 ∷ interval 7 7 ∷ [])) (eight (7 ∷ 7 ∷ [])) (scored 1029 0)
+    ∷ choosing (profile (interval 7 7 ∷ interval 7 7 ∷ [])) 1028 (refused (below 1029))
+    -- P10: the one row, and its loss
+    ∷ building (profile (interval 1801 3600 ∷ [])) (number 1) (rows ((0x00 ∷ 0x00 ∷ 0x00 ∷ 0x01 ∷ 0xE1 ∷ 0x00 ∷ []) ∷ []))
+    ∷ choosing (profile (interval 1801 3600 ∷ [])) 2 (plan 1 0 (3600 ∷ []))
+    -- no pages
+    ∷ choosing (profile (job 3600 3600 0 0 1 ∷ [])) 0 (plan 0 0 (3600 ∷ []))
+    -- a tie that the list settles
+    ∷ choosing (profile (job 1 2 0 0 1 ∷ [])) 0 (plan 0 0 (1 ∷ []))
+    -- an interval that encloses the next one's
+    ∷ choosing (profile (interval 10 10 ∷ job 10 40 20 0 32 ∷ interval 20 30 ∷ [])) 100000 (plan 7740 0 (10 ∷ 10 ∷ 20 ∷ []))
+    -- a stiffness other than 1: 3 times the square of 1,028 less 102
+    ∷ scoring (profile (job 7 70 1 1 3 ∷ [])) (eight (70 ∷ [])) (scored 103 2572428)
+    -- five zones
+    ∷ listing (profile (interval 6 10 ∷ interval 11 22 ∷ interval 19 40 ∷ [])) (number 5) fiveZones
+    -- a table that is not complete
+    ∷ lookingUp profileA (rows (row₁ ∷ row₂ ∷ [])) 4499 (number 1) (rows (row₁ ∷ []))
+    ∷ lookingUp profileA (rows (row₁ ∷ row₂ ∷ [])) 4500 (number 2) (rows (row₂ ∷ []))
+    ∷ lookingUp profileA (rows (row₁ ∷ row₂ ∷ [])) 0xffff_ffff (number 2) (rows (row₂ ∷ []))
+    -- tables that are not well formed: no bytes, a row cut short, falling starts, a row twice, a row of zeros
+    ∷ lookingUp profileA [] 4320 (noNumber (Row 0)) []
+    ∷ lookingUp profileA (take 31 (rows (row₁ ∷ row₂ ∷ []))) 4320 (noNumber (Row 0)) []
+    ∷ lookingUp profileA (rows (row₂ ∷ row₁ ∷ [])) 4500 (noNumber (Row 2)) []
+    ∷ lookingUp profileA (rows (row₁ ∷ row₁ ∷ [])) 4320 (noNumber (Row 2)) []
+    ∷ lookingUp profileA (rows ([] ∷ [])) 4320 (noNumber (Row 1)) []
+    ∷ []

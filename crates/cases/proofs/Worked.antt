@@ -1,0 +1,38 @@
+-- Document 01's numbers are right: computing every answer anew gives the same list of cases, and what is computed is right.
+-- Assumes nothing.
+use mathlib.Core.Path.{_≡_, refl, _∙_, sym, ap, subst}
+use mathlib.Core.List.{List, _∷_, map, flatMap, List·Memᴰ, List·Memᴰ·head, List·Memᴰ·tail}
+use Rattle.model.specs.Model.{entries, lastOf, pagesIn, need, rate, jobLoss, loss, verdictOf, refuseIf, orElse, ifSound, firstRefused, judgeIntervalAndStiffness, judgeJob}
+use Rattle.codec.specs.Packing.{bits, pack, unpack, recut}
+use Rattle.codec.specs.Rows.{tableRow}
+use Rattle.score.specs.Scoring.{judgePeriod, firstUnpermitted, scoreVerdict}
+use Rattle.walk.specs.Chains.{climb, risingFrom, multiples, descend, fallingFrom, multiplesDown}
+use Rattle.walk.specs.Walk.{visit, walkBy}
+use Rattle.choose.specs.Found.{beats, pick, lessNeed, settle}
+use Rattle.zones.specs.Listing.{climb as climbUp, upTo as upToLast, unlessEmpty, zonesBelow, zonesIn}
+use Rattle.zones.specs.Zones.{rowsOf}
+use Rattle.table.specs.Table.{tableBytes}
+use Rattle.table.specs.Descent.{upTo, descent}
+use Rattle.lookup.specs.Table.{rowFields}
+use Rattle.lookup.specs.Lookup.{allows, placeRight, placesRight, follows, rowRight, firstBad, tableVerdict, lookupVerdict, lastWithin}
+use Rattle.cases.proofs.Cases.{Case, Right, cases}
+use Rattle.cases.proofs.Anew.{choiceFor, scoreFor, counted, roomy, countFor, bytesFor, anew, anew-right}
+
+computed : map anew cases ≡ cases
+unfolding cases anew choiceFor scoreFor counted roomy countFor bytesFor settle walkBy visit pick lessNeed beats multiples risingFrom climb multiplesDown fallingFrom descend rate jobLoss entries verdictOf refuseIf orElse ifSound firstRefused judgeIntervalAndStiffness judgeJob need loss pagesIn lastOf scoreVerdict firstUnpermitted judgePeriod zonesIn zonesBelow unlessEmpty upToLast climbUp flatMap rowsOf recut pack unpack bits tableBytes tableRow descent upTo lookupVerdict tableVerdict firstBad rowRight placesRight placeRight allows follows rowFields lastWithin
+computed = refl
+
+same-head : {A : Type 0} {x y : A} {xs ys : List A} → x ∷ xs ≡ y ∷ ys → x ≡ y
+same-head e = cc
+
+same-tail : {A : Type 0} {x y : A} {xs ys : List A} → x ∷ xs ≡ y ∷ ys → xs ≡ ys
+same-tail e = cc
+
+-- a function that leaves a list as it is leaves each of its entries
+same-at : {A : Type 0} (f : A → A) (xs : List A) {x : A} → map f xs ≡ xs → List·Memᴰ x xs → f x ≡ x
+same-at f (y ∷ xs) e (List·Memᴰ·head h) = ap f h ∙ same-head e ∙ sym h
+same-at f (y ∷ xs) e (List·Memᴰ·tail m) = same-at f xs (same-tail e) m
+
+-- For every case of the list, whatever the contract allows is what stands there.
+pub worked : (c : Case) → List·Memᴰ c cases → Right c
+worked c m = subst Right (same-at anew cases computed m) (anew-right c)
