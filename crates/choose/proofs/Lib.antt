@@ -6,6 +6,5 @@ pub mod Settled
 pub mod Lessening
 pub mod Stored
 pub mod Winning
-pub mod Worked
 pub mod Climbing
 pub mod Answered

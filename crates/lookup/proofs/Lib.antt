@@ -7,7 +7,6 @@ pub mod InOrder
 pub mod Judging
 pub mod Laid
 pub mod LookedUp
-pub mod Numbers
 pub mod OneOutcome
 pub mod OnlyTable
 pub mod Places

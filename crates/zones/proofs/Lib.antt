@@ -4,7 +4,6 @@ pub mod Copied
 pub mod Coming
 pub mod Flat
 pub mod Listing
-pub mod Numbers
 pub mod OneOutcome
 pub mod Outcome
 pub mod Permitted
