@@ -22,9 +22,9 @@ ghost use Rattle.lookup.specs.Cut.{rowOf, rowAt};
 ghost use Rattle.lookup.specs.Checks.{Fastest, zerosFrom};
 
 // A table row's start and its eight periods.
-struct TableRow {
-    start: PagesPerHour,
-    periods: [Seconds; 8],
+pub struct TableRow {
+    pub start: PagesPerHour,
+    pub periods: [Seconds; 8],
 }
 
 // The row that answers a budget, as those sixteen bytes of the lent table; an empty part on a refusal.
@@ -266,7 +266,7 @@ fn row_at(table: &[u8], k: usize) -> TableRow
 }
 
 // A row's fields: the third period has eight bits in the first word and four in the second.
-fn cut_row(high: u64, low: u64) -> TableRow
+pub fn cut_row(high: u64, low: u64) -> TableRow
     ensures { λ r. ⌜ r ≡ rowOf (unpack tableWidths (high * 2 ^ 64 + low)) ⌝ }
 {
     let start = high / 0x1_0000_0000;

@@ -1,0 +1,29 @@
+-- A refused reading comes with a profile of zeros, and building refuses that, so that a listing says no more than its refusal.
+-- Assumes nothing.
+use mathlib.Core.Path.{_≡_, refl, sym, _∙_, subst}
+use mathlib.Core.List.{List}
+use Prim.Native.Nat.{ℕ}
+use lib.ListN.{length}
+use Rattle.model.specs.declared.Profile.{Profile}
+use Rattle.model.specs.declared.Verdict.the-variants.{JobCount}
+use Rattle.model.specs.Model.{refuseIf, orElse, verdictOf}
+use Rattle.model.proofs.Verdicts.{Refuses, beside-refusal}
+use Rattle.codec.specs.declared.Reading.{Reading}
+use Rattle.codec.specs.Layout.{noProfile, Reads}
+use Rattle.table.specs.Table.{buildVerdict, Built}
+use Rattle.table.proofs.Outcome.{handed-on}
+
+pub zeros-refused : verdictOf noProfile ≡ JobCount
+unfolding verdictOf refuseIf
+zeros-refused = refl
+
+build-refused : (count size : ℕ) → JobCount ≡ buildVerdict noProfile count size
+unfolding buildVerdict verdictOf orElse refuseIf
+build-refused count size = refl
+
+pub read-zeros : {bytes : List ℕ} {r : Reading} → Reads bytes r → Refuses (r .verdict) → r .profile ≡ noProfile
+read-zeros read h = read .profile ∙ sym (beside-refusal _ _ h (read .verdict))
+
+-- nothing is built of zeros
+pub none-built : (p : Profile) (old : List ℕ) → p ≡ noProfile → Built p old (record { verdict = JobCount; count = 0 }) old
+none-built p old e = subst (λ (q : Profile). Built q old (record { verdict = JobCount; count = 0 }) old) (sym e) (handed-on noProfile old JobCount tt (build-refused _ (length old)))

@@ -1,0 +1,3 @@
+pub mod Lines
+pub mod Text
+pub mod Writing

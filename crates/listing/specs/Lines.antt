@@ -1,0 +1,92 @@
+-- The lines of a listing, as bytes (document 01, The ladder program), and what preparing a listing and printing a line answer.
+-- Cited by public contracts. Assumes nothing.
+use mathlib.Core.Path.{_≡_}
+use mathlib.Core.List.{List, [], _∷_, _++_}
+use mathlib.Core.Bool.{cond}
+use Prim.Native.Nat.{ℕ, zero, suc, _+_, _/_, _%_}
+use lib.ListN.{length, drop}
+use lib.Dec.{ltb}
+use Rattle.model.specs.declared.Seconds.{Seconds}
+use Rattle.model.specs.declared.PagesPerHour.{PagesPerHour}
+use Rattle.model.specs.declared.Profile.{Profile}
+use Rattle.model.specs.declared.Counted.{Counted}
+use Rattle.model.specs.declared.Verdict.{Verdict}
+use Rattle.model.specs.Model.{periodsOf, numberOf, detailOf, orElse, ifSound}
+use Rattle.codec.specs.declared.Reading.{Reading}
+use Rattle.codec.specs.Layout.{Reads}
+use Rattle.score.specs.Scoring.{scoreVerdict}
+use Rattle.table.specs.Table.{Built}
+use Rattle.lookup.specs.Table.{rowsIn, startAt, periodsAt, lossAt}
+use Rattle.listing.specs.declared.Listing.{Listing}
+
+-- The last decimal digits of a number, at most `most`, with no zero in front: `0` is 48. A number below 10 is its own digit;
+-- any other is the digits of its tenth part, then its last digit.
+unfoldable pub digitsOf : ℕ → ℕ → List ℕ
+digitsOf zero n = []
+digitsOf (suc most) n = cond (ltb n 10) ((48 + n) ∷ []) (digitsOf most (n / 10) ++ ((48 + n % 10) ∷ []))
+
+-- A number in decimal; 20 digits are enough for 64 bits.
+unfoldable pub decimal : ℕ → List ℕ
+decimal n = digitsOf 20 n
+
+-- A space, then a number.
+unfoldable pub spaced : ℕ → List ℕ
+spaced n = 32 ∷ decimal n
+
+-- Periods, a space before each.
+unfoldable pub spacedPeriods : List Seconds → List ℕ
+spacedPeriods [] = []
+spacedPeriods (t ∷ ts) = spaced (t .0) ++ spacedPeriods ts
+
+abbrev pub lineFeed : List ℕ
+lineFeed = 10 ∷ []
+
+-- `refused`, `jobs`, and ` rows` with the space before it.
+abbrev pub refusedWord : List ℕ
+refusedWord = 114 ∷ 101 ∷ 102 ∷ 117 ∷ 115 ∷ 101 ∷ 100 ∷ []
+
+abbrev pub jobsWord : List ℕ
+jobsWord = 106 ∷ 111 ∷ 98 ∷ 115 ∷ []
+
+abbrev pub rowsWord : List ℕ
+rowsWord = 32 ∷ 114 ∷ 111 ∷ 119 ∷ 115 ∷ []
+
+-- `refused NUMBER DETAIL`
+unfoldable pub refusalLine : Verdict → List ℕ
+refusalLine v = refusedWord ++ spaced (numberOf v) ++ spaced (detailOf v) ++ lineFeed
+
+-- `jobs N rows R`
+unfoldable pub headerLine : ℕ → ℕ → List ℕ
+headerLine n rows = jobsWord ++ spaced n ++ rowsWord ++ spaced rows ++ lineFeed
+
+-- A row: start, loss and periods.
+unfoldable pub rowLine : PagesPerHour → ℕ → List Seconds → List ℕ
+rowLine start loss periods = decimal (start .0) ++ spaced loss ++ spacedPeriods periods ++ lineFeed
+
+-- Row k of a table, from 0, as a line; nothing where the table has no such row or scoring refuses its periods.
+unfoldable pub lineOfRow : Profile → List ℕ → ℕ → List ℕ
+lineOfRow p table k =
+    cond (ltb k (rowsIn table))
+    (ifSound (scoreVerdict p (periodsAt table k)) (rowLine (startAt table k) (lossAt p table k) (periodsOf p (periodsAt table k))) [])
+    []
+
+-- The lines of a listing, from 0: the refusal and no other, or the header and then the rows; nothing beyond them.
+unfoldable pub lineAt : Listing → List ℕ → ℕ → List ℕ
+lineAt l table zero = ifSound (l .verdict) (headerLine (l .profile .n) (l .rows)) (refusalLine (l .verdict))
+lineAt l table (suc k) = ifSound (l .verdict) (cond (ltb k (l .rows)) (lineOfRow (l .profile) table k) []) []
+
+-- What `prepare` may answer, and leave of a lent table that held `old`: what reading and then building have it. Beside a
+-- refused reading the profile is all zeros, which building refuses: there are no rows and no byte changes.
+pub record Prepares (input old : List ℕ) (l : Listing) (new : List ℕ) : Type 0 where
+  pub reading : Reading
+  pub read : Reads input reading
+  pub building : Counted
+  pub built : Built (reading .profile) old building new
+  pub verdict : l .verdict ≡ orElse (reading .verdict) (building .verdict)
+  pub profile : l .profile ≡ reading .profile
+  pub rows : l .rows ≡ building .count
+
+-- What `line` may answer, and leave of a text that held `old`: the line numbered k and its length.
+pub record Prints (l : Listing) (table : List ℕ) (k : ℕ) (old : List ℕ) (r : ℕ) (new : List ℕ) : Type 0 where
+  pub size : r ≡ length (lineAt l table k)
+  pub text : new ≡ lineAt l table k ++ drop (length (lineAt l table k)) old
