@@ -3,7 +3,7 @@
 use mathlib.Core.Path.{_≡_}
 use mathlib.Core.List.{List, [], _∷_, _++_}
 use mathlib.Core.Bool.{cond}
-use Prim.Native.Nat.{ℕ, zero, suc, _+_, _/_, _%_}
+use Prim.Native.Nat.{ℕ, zero, suc, _+_, _*_, _/_, _%_}
 use lib.ListN.{length, drop}
 use lib.Dec.{ltb}
 use Rattle.model.specs.declared.Seconds.{Seconds}
@@ -75,7 +75,7 @@ unfoldable pub lineAt : Listing → List ℕ → ℕ → List ℕ
 lineAt l table zero = ifSound (l .verdict) (headerLine (l .profile .n) (l .rows)) (refusalLine (l .verdict))
 lineAt l table (suc k) = ifSound (l .verdict) (cond (ltb k (l .rows)) (lineOfRow (l .profile) table k) []) []
 
--- What `prepare` may answer, and leave of a lent table that held `old`: what reading and then building have it. Beside a
+-- What `prepare` may answer, and leave of a lent table that held `old`: as reading and then building have it. Beside a
 -- refused reading the profile is all zeros, which building refuses: there are no rows and no byte changes.
 pub record Prepares (input old : List ℕ) (l : Listing) (new : List ℕ) : Type 0 where
   pub reading : Reading
@@ -85,6 +85,8 @@ pub record Prepares (input old : List ℕ) (l : Listing) (new : List ℕ) : Type
   pub verdict : l .verdict ≡ orElse (reading .verdict) (building .verdict)
   pub profile : l .profile ≡ reading .profile
   pub rows : l .rows ≡ building .count
+  pub room : length old ≡ 16 * 4096
+  pub kept : length new ≡ 16 * 4096
 
 -- What `line` may answer, and leave of a text that held `old`: the line numbered k and its length.
 pub record Prints (l : Listing) (table : List ℕ) (k : ℕ) (old : List ℕ) (r : ℕ) (new : List ℕ) : Type 0 where

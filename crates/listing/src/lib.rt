@@ -25,6 +25,7 @@ pub struct Listing {
 pub fn prepare(input: &[u8], table: &mut [u8; 65536]) -> Listing
     ensures { λ r. ⌜ Prepares (now (input .entry)) (now (table .entry)) r (now (table .exit)) ⌝ }
 {
+    let room: &mut [u8] = table;
     let reading = codec::read_profile(input);
     let profile = reading.profile;
     let v = reading.verdict;
@@ -35,7 +36,7 @@ pub fn prepare(input: &[u8], table: &mut [u8; 65536]) -> Listing
             rows: 0,
         };
     };
-    let built = table::build_table(profile, table);
+    let built = table::build_table(profile, room);
     let w = built.verdict;
     Listing {
         verdict: w,
