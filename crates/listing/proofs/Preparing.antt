@@ -1,6 +1,6 @@
 -- A refused reading comes with a profile of zeros, and building refuses that, so that a listing says no more than its refusal.
 -- Assumes nothing.
-use mathlib.Core.Path.{_≡_, refl, sym, _∙_, subst}
+use mathlib.Core.Path.{_≡_, refl, sym, _∙_, ap, subst}
 use mathlib.Core.List.{List}
 use Prim.Native.Nat.{ℕ}
 use lib.ListN.{length}
@@ -13,17 +13,16 @@ use Rattle.codec.specs.Layout.{noProfile, Reads}
 use Rattle.table.specs.Table.{buildVerdict, Built}
 use Rattle.table.proofs.Outcome.{handed-on}
 
-pub zeros-refused : verdictOf noProfile ≡ JobCount
-unfolding verdictOf refuseIf
-zeros-refused = refl
-
-build-refused : (count size : ℕ) → JobCount ≡ buildVerdict noProfile count size
+build-refused : (count size : ℕ) → buildVerdict noProfile count size ≡ JobCount
 unfolding buildVerdict verdictOf orElse refuseIf
 build-refused count size = refl
+
+pub zeros-build : (p : Profile) (count size : ℕ) → p ≡ noProfile → buildVerdict p count size ≡ JobCount
+zeros-build p count size e = ap (λ (q : Profile). buildVerdict q count size) e ∙ build-refused count size
 
 pub read-zeros : {bytes : List ℕ} {r : Reading} → Reads bytes r → Refuses (r .verdict) → r .profile ≡ noProfile
 read-zeros read h = read .profile ∙ sym (beside-refusal _ _ h (read .verdict))
 
 -- nothing is built of zeros
 pub none-built : (p : Profile) (old : List ℕ) → p ≡ noProfile → Built p old (record { verdict = JobCount; count = 0 }) old
-none-built p old e = subst (λ (q : Profile). Built q old (record { verdict = JobCount; count = 0 }) old) (sym e) (handed-on noProfile old JobCount tt (build-refused _ (length old)))
+none-built p old e = subst (λ (q : Profile). Built q old (record { verdict = JobCount; count = 0 }) old) (sym e) (handed-on noProfile old JobCount tt (sym (build-refused _ (length old))))

@@ -1,0 +1,44 @@
+-- Every input has one text. Past a sound profile both speak of the same rows; a refused profile decides whatever the rows are.
+-- Assumes nothing.
+use mathlib.Core.Path.{_≡_, refl, sym, _∙_, ap, ap₂, subst}
+use mathlib.Core.Logic.{⊎-elim}
+use mathlib.Core.List.{List}
+use Prim.Native.Nat.{ℕ, _*_}
+use lib.ListN.{length}
+use Rattle.model.specs.declared.Seconds.{Seconds}
+use Rattle.model.specs.declared.Verdict.the-variants.{Sound}
+use Rattle.model.specs.Model.{jobsOf, orElse, verdictOf}
+use Rattle.model.proofs.Verdicts.{Refuses, beside-refusal}
+use Rattle.codec.specs.declared.Reading.{Reading}
+use Rattle.codec.proofs.OneOutcome.{read-profile-one-outcome}
+use Rattle.table.specs.Table.{TableOf, buildVerdict}
+use Rattle.table.proofs.OneOutcome.{table-one}
+use Rattle.listing.specs.Lines.{refusalLine}
+use Rattle.listing.specs.Text.{listingVerdict, textOf, Text}
+use Rattle.listing.proofs.Verdicts.{sound-or-refused, refused-first, refused-next}
+
+-- the refusal of a profile stands, however many rows there are
+refused-decides : (r : Reading) (count : ℕ) → Refuses (verdictOf (r .profile)) → orElse (r .verdict) (verdictOf (r .profile)) ≡ listingVerdict r count
+unfolding listingVerdict buildVerdict
+refused-decides r count h = ap (orElse (r .verdict)) (sym (refused-first (verdictOf (r .profile)) _ h))
+
+refused-text : (r : Reading) (rows : List (List Seconds)) → Refuses (verdictOf (r .profile)) → textOf r rows ≡ refusalLine (orElse (r .verdict) (verdictOf (r .profile)))
+unfolding textOf
+refused-text r rows h =
+    let e = refused-decides r (length rows) h in
+    sym (ap refusalLine e ∙ beside-refusal _ _ (refused-next (r .verdict) (verdictOf (r .profile)) h) e)
+
+pub text-one : (input : List ℕ) {text other-text : List ℕ} → Text input text → Text input other-text → text ≡ other-text
+text-one input one other = one .is ∙ ⊎-elim sound refused (sound-or-refused (verdictOf (one .reading .profile))) ∙ sym (other .is)
+  where
+    same : one .reading ≡ other .reading
+    same = read-profile-one-outcome input (one .read) (other .read)
+
+    sound : verdictOf (one .reading .profile) ≡ Sound → textOf (one .reading) (one .rows) ≡ textOf (other .reading) (other .rows)
+    sound e =
+        let f : verdictOf (other .reading .profile) ≡ Sound = subst (λ (r : Reading). verdictOf (r .profile) ≡ Sound) same e in
+        let theirs = subst (λ (r : Reading). TableOf (jobsOf (r .profile)) (other .rows)) (sym same) (other .are f) in
+        ap₂ textOf same (table-one (jobsOf (one .reading .profile)) (one .are e) theirs)
+
+    refused : Refuses (verdictOf (one .reading .profile)) → textOf (one .reading) (one .rows) ≡ textOf (other .reading) (other .rows)
+    refused h = refused-text (one .reading) (one .rows) h ∙ sym (refused-text (one .reading) (other .rows) h) ∙ ap (λ (r : Reading). textOf r (other .rows)) same
