@@ -1,8 +1,8 @@
 -- The lines of a sound listing, one by one: row k of the built bytes is the k-th list of the table, so line k + 1 is its line.
 -- Assumes nothing.
-use mathlib.Core.Path.{_≡_, refl, sym, _∙_, ap, ap₂, subst}
+use mathlib.Core.Path.{_≡_, refl, sym, _∙_, ap, ap₂}
 use mathlib.Core.List.{List, [], _∷_, _++_, append-assoc, append-nil}
-use Prim.Native.Nat.{ℕ, zero, suc, _*_, _≤_, _<_}
+use Prim.Native.Nat.{ℕ, zero, suc, _≤_, _<_}
 use native.Mathlib.Omega.{arith}
 use lib.ListN.{length, getD, take, length-append}
 use lib.Seq.{take-suc, take-length}
@@ -17,7 +17,7 @@ use Rattle.model.proofs.Verdicts.{sound-passes, beside-sound}
 use Rattle.score.specs.Scoring.{firstUnpermitted, scoreVerdict}
 use Rattle.score.proofs.Permission.{permitted-sound}
 use Rattle.table.specs.Table.{tableBytes}
-use Rattle.lookup.specs.Table.{rowsIn, startAt, periodsAt, lossAt}
+use Rattle.lookup.specs.Table.{rowsIn, periodsAt}
 use Rattle.lookup.proofs.Laid.{Laid, AllPermitted, length-table, row-member, few-jobs, start-at, list-at, loss-at}
 use Rattle.listing.specs.declared.Listing.{Listing}
 use Rattle.listing.specs.Lines.{headerLine, rowLine, lineOfRow, lineAt}

@@ -1,5 +1,6 @@
 pub mod Decimals
 pub mod Laying
+pub mod Numbers
 pub mod OneOutcome
 pub mod OneText
 pub mod Periods

@@ -1,7 +1,7 @@
 -- Any two outcomes that a public contract of this crate allows are equal: the answer, and the bytes of the lent buffer.
 -- Assumes nothing.
 use mathlib.Core.Path.{_≡_, _∙_, sym, ap₂, subst}
-use mathlib.Core.List.{List, _++_}
+use mathlib.Core.List.{List}
 use Prim.Native.Nat.{ℕ}
 use Rattle.model.specs.declared.Counted.{Counted}
 use Rattle.model.specs.Model.{orElse}

@@ -1,18 +1,24 @@
--- Every input has one text. Past a sound profile both speak of the same rows; a refused profile decides whatever the rows are.
--- Assumes nothing.
+-- Every input has a text, and one only. Past a sound profile two texts speak of the same rows; a refused profile decides whatever
+-- the rows are. Assumes nothing.
 use mathlib.Core.Path.{_≡_, refl, sym, _∙_, ap, ap₂, subst}
 use mathlib.Core.Logic.{⊎-elim}
-use mathlib.Core.List.{List}
-use Prim.Native.Nat.{ℕ, _*_}
+use mathlib.Core.List.{List, []}
+use Prim.Native.Nat.{ℕ, zero, suc, _/_}
 use lib.ListN.{length}
+use lib.Dec.{eqb, ltb}
+use native.Mathlib.Omega.{arith}
+use borrow.Author.Tests.{lt-ltb, ne-eqb}
 use Rattle.model.specs.declared.Seconds.{Seconds}
-use Rattle.model.specs.declared.Verdict.the-variants.{Sound}
-use Rattle.model.specs.Model.{jobsOf, orElse, verdictOf}
+use Rattle.model.specs.declared.Profile.{Profile}
+use Rattle.model.specs.declared.Verdict.the-variants.{Sound, NoPeriods, Room}
+use Rattle.model.specs.Model.{jobsOf, refuseIf, orElse, ifSound, verdictOf}
 use Rattle.model.proofs.Verdicts.{Refuses, beside-refusal}
 use Rattle.codec.specs.declared.Reading.{Reading}
+use Rattle.codec.specs.Layout.{verdictOfBytes, valuesOf, noProfile}
 use Rattle.codec.proofs.OneOutcome.{read-profile-one-outcome}
-use Rattle.table.specs.Table.{TableOf, buildVerdict}
+use Rattle.table.specs.Table.{TableOf, buildVerdict, Built}
 use Rattle.table.proofs.OneOutcome.{table-one}
+use Rattle.table.proofs.Outcome.{rowsOf, handed-on}
 use Rattle.listing.specs.Lines.{refusalLine}
 use Rattle.listing.specs.Text.{listingVerdict, textOf, Text}
 use Rattle.listing.proofs.Verdicts.{sound-or-refused, refused-first, refused-next}
@@ -42,3 +48,20 @@ text-one input one other = one .is ∙ ⊎-elim sound refused (sound-or-refused 
 
     refused : Refuses (verdictOf (one .reading .profile)) → textOf (one .reading) (one .rows) ≡ textOf (other .reading) (other .rows)
     refused h = refused-text (one .reading) (one .rows) h ∙ sym (refused-text (one .reading) (other .rows) h) ∙ ap (λ (r : Reading). textOf r (other .rows)) same
+
+-- no room is too small for any rows
+no-room : (count : ℕ) → Refuses (refuseIf (eqb count 0) NoPeriods (refuseIf (ltb (0 / 16) count) (Room count) Sound))
+unfolding refuseIf
+no-room zero = tt
+no-room (suc count) = rw (ne-eqb (suc count) 0 (λ e. omega arith), lt-ltb 0 (suc count) (omega arith)) tt
+
+-- every profile has its rows, as what building into no room tells of them
+some-rows : (p : Profile) → Built p [] (record { verdict = buildVerdict p (length (rowsOf p)) 0; count = 0 }) []
+unfolding buildVerdict
+some-rows p = handed-on p [] _ (refused-next (verdictOf p) _ (no-room (length (rowsOf p)))) refl
+
+pub text-some : (input : List ℕ) → (text : List ℕ) × Text input text
+text-some input =
+    let r : Reading = record { verdict = verdictOfBytes input; profile = ifSound (verdictOfBytes input) (valuesOf input) noProfile } in
+    let b = some-rows (r .profile) in
+    (textOf r (b .rows), record { reading = r; read = record { verdict = refl; profile = refl }; rows = b .rows; are = b .are; none = b .none; is = refl })

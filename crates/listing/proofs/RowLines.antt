@@ -1,17 +1,13 @@
 -- A row as a line: what stands where the row is there and its periods score, and nothing elsewhere. Scored periods are
 -- permitted, and so small enough for the text. Assumes nothing.
-use mathlib.Core.Path.{_≡_, refl, sym, _∙_, ap, ap₂, subst}
-use mathlib.Core.Bool.{Bool, cond}
+use mathlib.Core.Path.{_≡_, sym, _∙_, ap}
 use mathlib.Core.List.{List, []}
 use Prim.Native.Nat.{ℕ, _+_, _*_, _^_, _≤_, _<_}
-use lib.ListN.{length, getD}
-use lib.Dec.{ltb}
 use borrow.Author.Tests.{lt-ltb, le-ltb}
 use Rattle.model.specs.declared.Seconds.{Seconds}
 use Rattle.model.specs.declared.Profile.{Profile}
-use Rattle.model.specs.declared.Verdict.{Verdict}
 use Rattle.model.specs.declared.Verdict.the-variants.{Sound}
-use Rattle.model.specs.Model.{seconds, noJob, jobsOf, periodsOf, Valid, loss, ifSound, verdictOf}
+use Rattle.model.specs.Model.{seconds, noJob, jobsOf, periodsOf, loss, ifSound, verdictOf}
 use Rattle.model.proofs.Entries.{length-entries}
 use Rattle.model.proofs.Validity.{sound-valid}
 use Rattle.model.proofs.Verdicts.{Refuses, both-sound, beside-sound, beside-refusal}
@@ -22,7 +18,7 @@ use Rattle.score.specs.declared.Scored.{Scored}
 use Rattle.score.specs.Scoring.{scoreVerdict, Scores}
 use Rattle.score.proofs.Permission.{sound-permitted, scorable}
 use Rattle.lookup.specs.declared.TableRow.{TableRow}
-use Rattle.lookup.specs.Table.{rowsIn, startAt, periodsAt, lossAt}
+use Rattle.lookup.specs.Table.{rowsIn}
 use Rattle.lookup.specs.Cut.{rowOf, rowAt}
 use Rattle.lookup.proofs.Cutting.{fields-of-words}
 use Rattle.listing.specs.Lines.{rowLine, lineOfRow}

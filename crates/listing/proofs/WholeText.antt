@@ -1,24 +1,23 @@
 -- The lines of a prepared listing, one after the other, are the text of its input: a refused listing has its refusal alone, and a
 -- sound one its header and rows. Assumes nothing.
-use mathlib.Core.Path.{_≡_, refl, sym, _∙_, ap, ap₂, subst}
+use mathlib.Core.Path.{_≡_, refl, sym, _∙_, ap, subst}
 use mathlib.Core.Logic.{⊎-elim}
 use mathlib.Core.List.{List, _++_}
 use Prim.Native.Nat.{ℕ, _*_}
 use lib.ListN.{length, drop}
 use Rattle.model.specs.declared.Profile.{Profile}
-use Rattle.model.specs.declared.Verdict.{Verdict}
 use Rattle.model.specs.declared.Verdict.the-variants.{Sound}
 use Rattle.model.specs.Model.{jobsOf, Valid, orElse, verdictOf}
 use Rattle.model.proofs.Validity.{sound-valid}
 use Rattle.model.proofs.Verdicts.{Refuses, sound-passes, both-sound, beside-sound, beside-refusal}
-use Rattle.table.specs.Table.{tableBytes, buildVerdict, Built}
+use Rattle.table.specs.Table.{buildVerdict}
 use Rattle.lookup.proofs.Laid.{Laid, AllPermitted}
 use Rattle.listing.specs.declared.Listing.{Listing}
 use Rattle.listing.specs.Lines.{refusalLine, headerLine, lineAt, Prepares}
 use Rattle.listing.specs.Text.{rowLines, listingVerdict, textOf, Text, linesTo}
 use Rattle.listing.proofs.Laying.{sound-lines}
 use Rattle.listing.proofs.Preparing.{read-zeros, zeros-build}
-use Rattle.listing.proofs.Verdicts.{sound-or-refused, refused-first}
+use Rattle.listing.proofs.Verdicts.{sound-or-refused}
 
 module _ {input old : List ℕ} {l : Listing} {new : List ℕ} (prepared : Prepares input old l new) where
   -- the verdict on building, at the room that is lent

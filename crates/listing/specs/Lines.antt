@@ -4,6 +4,8 @@ use mathlib.Core.Path.{_≡_}
 use mathlib.Core.List.{List, [], _∷_, _++_}
 use mathlib.Core.Bool.{cond}
 use Prim.Native.Nat.{ℕ, zero, suc, _+_, _*_, _/_, _%_}
+use Prim.Native.Char.{code}
+use Prim.Native.String.{String, [] as none, _∷_ as _then_}
 use lib.ListN.{length, drop}
 use lib.Dec.{ltb}
 use Rattle.model.specs.declared.Seconds.{Seconds}
@@ -19,11 +21,16 @@ use Rattle.table.specs.Table.{Built}
 use Rattle.lookup.specs.Table.{rowsIn, startAt, periodsAt, lossAt}
 use Rattle.listing.specs.declared.Listing.{Listing}
 
--- The last decimal digits of a number, at most `most`, with no zero in front: `0` is 48. A number below 10 is its own digit;
--- any other is the digits of its tenth part, then its last digit.
+-- A text as bytes: the codes of its characters.
+abbrev pub ascii : String → List ℕ
+ascii none = []
+ascii (c then s) = code c ∷ ascii s
+
+-- The decimal digits of a number, the last `most` of them, with no zero in front: a number below 10 is one digit, and any
+-- other is the digits of its tenth part and then its last digit.
 unfoldable pub digitsOf : ℕ → ℕ → List ℕ
 digitsOf zero n = []
-digitsOf (suc most) n = cond (ltb n 10) ((48 + n) ∷ []) (digitsOf most (n / 10) ++ ((48 + n % 10) ∷ []))
+digitsOf (suc most) n = cond (ltb n 10) ((code "0" + n) ∷ []) (digitsOf most (n / 10) ++ ((code "0" + n % 10) ∷ []))
 
 -- A number in decimal; 20 digits are enough for 64 bits.
 unfoldable pub decimal : ℕ → List ℕ
@@ -31,37 +38,24 @@ decimal n = digitsOf 20 n
 
 -- A space, then a number.
 unfoldable pub spaced : ℕ → List ℕ
-spaced n = 32 ∷ decimal n
+spaced n = ascii " " ++ decimal n
 
 -- Periods, a space before each.
 unfoldable pub spacedPeriods : List Seconds → List ℕ
 spacedPeriods [] = []
 spacedPeriods (t ∷ ts) = spaced (t .0) ++ spacedPeriods ts
 
-abbrev pub lineFeed : List ℕ
-lineFeed = 10 ∷ []
-
--- `refused`, `jobs`, and ` rows` with the space before it.
-abbrev pub refusedWord : List ℕ
-refusedWord = 114 ∷ 101 ∷ 102 ∷ 117 ∷ 115 ∷ 101 ∷ 100 ∷ []
-
-abbrev pub jobsWord : List ℕ
-jobsWord = 106 ∷ 111 ∷ 98 ∷ 115 ∷ []
-
-abbrev pub rowsWord : List ℕ
-rowsWord = 32 ∷ 114 ∷ 111 ∷ 119 ∷ 115 ∷ []
-
 -- `refused NUMBER DETAIL`
 unfoldable pub refusalLine : Verdict → List ℕ
-refusalLine v = refusedWord ++ spaced (numberOf v) ++ spaced (detailOf v) ++ lineFeed
+refusalLine v = ascii "refused" ++ spaced (numberOf v) ++ spaced (detailOf v) ++ ascii "\n"
 
 -- `jobs N rows R`
 unfoldable pub headerLine : ℕ → ℕ → List ℕ
-headerLine n rows = jobsWord ++ spaced n ++ rowsWord ++ spaced rows ++ lineFeed
+headerLine n rows = ascii "jobs" ++ spaced n ++ ascii " rows" ++ spaced rows ++ ascii "\n"
 
 -- A row: start, loss and periods.
 unfoldable pub rowLine : PagesPerHour → ℕ → List Seconds → List ℕ
-rowLine start loss periods = decimal (start .0) ++ spaced loss ++ spacedPeriods periods ++ lineFeed
+rowLine start loss periods = decimal (start .0) ++ spaced loss ++ spacedPeriods periods ++ ascii "\n"
 
 -- Row k of a table, from 0, as a line; nothing where the table has no such row or scoring refuses its periods.
 unfoldable pub lineOfRow : Profile → List ℕ → ℕ → List ℕ

@@ -1,5 +1,6 @@
 -- The whole text that the ladder program prints for an input (document 01, The ladder program), stated with the model alone.
--- proofs/Text.antt shows that there is one, and that the lines of a listing are it. Assumes nothing.
+-- proofs/OneText.antt shows that there is one and no other, and proofs/WholeText.antt that the lines of a listing are it.
+-- Assumes nothing.
 use mathlib.Core.Path.{_≡_}
 use mathlib.Core.Logic.{_↔_}
 use mathlib.Core.List.{List, [], _∷_, _++_}
@@ -7,7 +8,6 @@ use Prim.Native.Nat.{ℕ, zero, suc, _*_}
 use lib.ListN.{length}
 use Rattle.model.specs.declared.Seconds.{Seconds}
 use Rattle.model.specs.declared.Job.{Job}
-use Rattle.model.specs.declared.Profile.{Profile}
 use Rattle.model.specs.declared.Verdict.{Verdict}
 use Rattle.model.specs.declared.Verdict.the-variants.{Sound}
 use Rattle.model.specs.Model.{jobsOf, Permitted, need, loss, orElse, ifSound, verdictOf}

@@ -1,11 +1,8 @@
 -- `listing::line` meets its contract: each way out puts the line that is due there.
 -- Assumes nothing.
-use mathlib.Core.Path.{_≡_}
-use lib.ListN.{length}
 use Rattle.model.proofs.Verdicts.{refuses}
 use Rattle.listing.proofs.Putting.{put-none}
 use Rattle.listing.proofs.Printing.{refusal-first, nothing-more, header-first, rows-end, row-next, printed}
-use native.Mathlib.Omega.{arith}
 use borrow.Author.Needs.{needs}
 use Rattle.listing.proofs.line.Statement.{statement}
 use Rattle.listing.proofs.line.Tie as tie

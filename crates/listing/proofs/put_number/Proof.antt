@@ -1,6 +1,5 @@
 -- `listing::put_number` meets its contract: the digits that `io::decimal` writes, put.
 -- Assumes nothing.
-use Prim.Native.Nat.{_≤_}
 use mathlib.Core.Path.{_≡_, _∙_, ap, subst}
 use mathlib.Core.List.{List}
 use Prim.Native.Nat.{ℕ}

@@ -5,7 +5,7 @@ use mathlib.Core.List.{List, _++_}
 use Prim.Native.Nat.{ℕ, _≤_}
 use lib.ListN.{length}
 use Rattle.model.proofs.Verdicts.{number-small}
-use Rattle.listing.specs.Lines.{spaced, lineFeed, refusedWord, refusalLine}
+use Rattle.listing.specs.Lines.{ascii, spaced, refusalLine}
 use Rattle.listing.proofs.Decimals.{spaced-few}
 use Rattle.listing.proofs.Putting.{put-then}
 use Rattle.listing.specs.Writing.{Puts}
@@ -60,7 +60,7 @@ returns c =
     let n = d .before .before .before in
     let a = n .before .before .before .before .before .before .args in
     let four = put-then (put-then (put-then (n .before .before .before .put .ensures) (n .put-spaced .ensures)) (d .put-spaced2 .ensures)) (c .put2 .ensures) in
-    let e = ap₂ (λ (x y : ℕ). refusedWord ++ spaced x ++ spaced y ++ lineFeed) (n .before .number .ensures) (d .before .detail .ensures) in
+    let e = ap₂ (λ (x y : ℕ). ascii "refused" ++ spaced x ++ spaced y ++ ascii "\n") (n .before .number .ensures) (d .before .detail .ensures) in
     subst (λ (w : List ℕ). Puts (a .text .now) 0 w (c .put2 .result) (c .put2 .last .0)) e four
 
 pub refusal-line-spec : {M : Type 1} → statement M

@@ -8,7 +8,6 @@ use Rattle.lookup.specs.Cut.{rowAt}
 use Rattle.listing.specs.Writing.{Puts}
 use Rattle.listing.proofs.Putting.{put-none}
 use Rattle.listing.proofs.RowLines.{row-is, scored-printable, no-such-row, periods-refused, line-there}
-use native.Mathlib.Omega.{arith}
 use borrow.Author.Needs.{needs}
 use Rattle.listing.proofs.row_line.Statement.{statement}
 use Rattle.listing.proofs.row_line.Tie as tie
