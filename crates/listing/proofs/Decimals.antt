@@ -13,6 +13,7 @@ use lib.Dec.{ltb}
 use borrow.Author.Tests.{lt-ltb, le-ltb, ltb-false}
 use Rattle.io.specs.Digits.{glyph, digits, Fewest}
 use Rattle.listing.specs.Lines.{digitsOf, decimal, spaced}
+use Rattle.listing.specs.Writing.{Puts}
 
 glyph-is : (d : ℕ) → d < 10 → glyph d ≡ 48 + d
 glyph-is d h = ap (λ (t : Bool). cond t (48 + d) (87 + d)) (lt-ltb d 10 h)
@@ -64,3 +65,24 @@ decimal-few k n h = digits-few 20 k n h
 pub spaced-few : (k n : ℕ) → n < 10 ^ suc k → length (spaced n) ≤ k + 2
 unfolding spaced
 spaced-few k n h = omega (arith, decimal-few k n h)
+
+-- and no number has more than twenty
+digits-most : (most n : ℕ) → length (digitsOf most n) ≤ most
+unfolding digitsOf
+digits-most zero n = omega arith
+digits-most (suc most) n = go (ltb n 10) (digits-most most (n / 10))
+  where
+    go : (t : Bool) → length (digitsOf most (n / 10)) ≤ most → length (cond t ((48 + n) ∷ []) (digitsOf most (n / 10) ++ ((48 + n % 10) ∷ []))) ≤ suc most
+    go true fewer = omega arith
+    go false fewer = omega (arith, length-append (digitsOf most (n / 10)) ((48 + n % 10) ∷ []))
+
+spaced-most : (n : ℕ) → length (spaced n) ≤ 21
+unfolding spaced decimal
+spaced-most n = omega (arith, digits-most 20 n)
+
+-- so twenty-one bytes are room enough for any, and take its place no further
+pub room-for : (at n : ℕ) → at + 21 ≤ 80 → at + length (spaced n) ≤ 80
+room-for at n h = omega (arith, spaced-most n)
+
+pub number-put : {old new : List ℕ} {at r : ℕ} (n : ℕ) → Puts old at (spaced n) r new → r ≤ at + 21
+number-put n p = omega (arith, p .place, spaced-most n)

@@ -13,9 +13,9 @@ use Rattle.model.proofs.Validity.{sound-valid}
 use Rattle.codec.specs.declared.Reading.{Reading}
 use Rattle.codec.specs.Packing.{bits, pack, unpack, recut}
 use Rattle.codec.specs.Layout.{headerOf, recordsIn, judgeRecord, judgeHeader, verdictOfBytes, eightJobs, Reads}
-use Rattle.choose.specs.Walk.{walkBy, visit}
+use Rattle.walk.specs.Walk.{walkBy, visit}
 use Rattle.choose.specs.Found.{pick, beats}
-use Rattle.choose.specs.Chains.{multiples, risingFrom, climb}
+use Rattle.walk.specs.Chains.{multiples, risingFrom, climb}
 use Rattle.table.specs.Table.{TableOf, buildVerdict}
 use Rattle.table.specs.Descent.{upTo, descent, rowsBelow, allBudgets}
 use Rattle.table.proofs.Descent.{descent-table, no-rows}

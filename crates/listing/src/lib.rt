@@ -72,21 +72,23 @@ pub fn line(l: Listing, table: &[u8], k: u64, text: &mut [u8; 80]) -> usize
 fn refusal_line(v: Verdict, text: &mut [u8; 80]) -> usize
     ensures { λ r. ⌜ Puts (now (text .entry)) 0 (refusalLine v) r (now (text .exit)) ⌝ }
 {
-    let word = put(text, 0, b"refused");
-    let number = put_spaced(text, word, model::number(v) as u64);
-    let detail = put_spaced(text, number, model::detail(v));
-    put(text, detail, b"\n")
+    let number = model::number(v) as u64;
+    let detail = model::detail(v);
+    let after_word = put(text, 0, b"refused");
+    let after_number = put_spaced(text, after_word, number);
+    let after_detail = put_spaced(text, after_number, detail);
+    put(text, after_detail, b"\n")
 }
 
 // `jobs N rows R`
 fn header_line(n: u32, rows: u64, text: &mut [u8; 80]) -> usize
     ensures { λ r. ⌜ Puts (now (text .entry)) 0 (headerLine n rows) r (now (text .exit)) ⌝ }
 {
-    let jobs_word = put(text, 0, b"jobs");
-    let jobs = put_spaced(text, jobs_word, n as u64);
-    let rows_word = put(text, jobs, b" rows");
-    let all = put_spaced(text, rows_word, rows);
-    put(text, all, b"\n")
+    let after_jobs = put(text, 0, b"jobs");
+    let after_n = put_spaced(text, after_jobs, n as u64);
+    let after_rows = put(text, after_n, b" rows");
+    let after_count = put_spaced(text, after_rows, rows);
+    put(text, after_count, b"\n")
 }
 
 // Row k of a table, from 0; nothing where there is no such row or scoring refuses its periods.
@@ -130,11 +132,11 @@ fn put_periods(text: &mut [u8; 80], at: usize, periods: [Seconds; 8], n: usize) 
     ensures { λ r. ⌜ Puts (now (text .entry)) at (spacedPeriods (entries (seconds 0) periods 0 n)) r (now (text .exit)) × (r ≤ at + 5 * n) ⌝ }
 {
     let mut end = at;
-    let mut k: usize = 0;
-    while k < n {
-        let t = periods[k];
+    let mut i: usize = 0;
+    while i < n {
+        let t = periods[i];
         end = put_spaced(text, end, t.0 as u64);
-        k += 1;
+        i += 1;
     }
     end
 }

@@ -3,27 +3,18 @@
 use Prim.Native.Nat.{_≤_}
 use lib.ListN.{length}
 use Rattle.listing.specs.Lines.{spaced, headerLine}
-use Rattle.listing.proofs.Decimals.{spaced-few}
+use Rattle.listing.proofs.Decimals.{room-for, number-put}
 use Rattle.listing.proofs.Putting.{put-then}
 use native.Mathlib.Omega.{arith}
 use borrow.Author.Needs.{needs}
 use Rattle.listing.proofs.header_line.Statement.{statement}
 use Rattle.listing.proofs.header_line.Tie as tie
 
--- n has up to ten digits, and the count of rows up to twenty
-jobs-few : (c : tie.Start) → length (spaced (c .args .n)) ≤ 11
-jobs-few c = spaced-few 9 (c .args .n) (omega (arith, c .fits .n))
+first-to : (c : tie.After-put-spaced) → c .put-spaced .result ≤ 25
+first-to c = omega (arith, number-put _ (c .put-spaced .ensures), c .before .before .put .ensures .place)
 
-rows-few : (c : tie.Start) → length (spaced (c .args .rows)) ≤ 21
-rows-few c = spaced-few 19 (c .args .rows) (omega (arith, c .fits .rows))
-
-jobs-put : (c : tie.After-put-spaced) → c .put-spaced .result ≤ 15
-jobs-put c = omega (arith, c .put-spaced .ensures .place, c .before .before .put .ensures .place, jobs-few (c .before .before .before .before .before))
-
-rows-put : (c : tie.After-put-spaced2) → c .put-spaced2 .result ≤ 41
-rows-put c =
-    let s = c .before .before .before .before .before in
-    omega (arith, c .put-spaced2 .ensures .place, c .before .before .put2 .ensures .place, jobs-put s, rows-few (s .before .before .before .before .before))
+second-to : (c : tie.After-put-spaced2) → c .put-spaced2 .result ≤ 51
+second-to c = omega (arith, number-put _ (c .put-spaced2 .ensures), c .before .before .put2 .ensures .place, first-to (c .before .before .before .before .before))
 
 slice-aggregate-put : tie.Need-slice-aggregate-put
 slice-aggregate-put c = search needs
@@ -32,24 +23,22 @@ put-requires : tie.Need-put-requires
 put-requires c κs = search needs
 
 put-spaced-requires : tie.Need-put-spaced-requires
-put-spaced-requires c κs = omega (arith, c .before .put .ensures .place, jobs-few (c .before .before .before .before))
+put-spaced-requires c κs = room-for _ _ (omega (arith, c .before .put .ensures .place))
 
 slice-aggregate-put-2 : tie.Need-slice-aggregate-put-2
 slice-aggregate-put-2 c = search needs
 
 put-requires-2 : tie.Need-put-requires-2
-put-requires-2 c κs = omega (arith, jobs-put (c .before .before))
+put-requires-2 c κs = omega (arith, first-to (c .before .before))
 
 put-spaced-requires-2 : tie.Need-put-spaced-requires-2
-put-spaced-requires-2 c κs =
-    let s = c .before .before .before .before in
-    omega (arith, c .before .put2 .ensures .place, jobs-put s, rows-few (s .before .before .before .before .before))
+put-spaced-requires-2 c κs = room-for _ _ (omega (arith, c .before .put2 .ensures .place, first-to (c .before .before .before .before)))
 
 slice-aggregate-put-3 : tie.Need-slice-aggregate-put-3
 slice-aggregate-put-3 c = search needs
 
 put-requires-3 : tie.Need-put-requires-3
-put-requires-3 c κs = omega (arith, rows-put (c .before .before))
+put-requires-3 c κs = omega (arith, second-to (c .before .before))
 
 returns : tie.Need-returns
 unfolding headerLine

@@ -1,4 +1,4 @@
--- `listing::put_periods` meets its contract: after k turns k periods are put.
+-- `listing::put_periods` meets its contract: after i turns i periods are put.
 -- Assumes nothing.
 use Prim.Native.Nat.{ℕ, _-_}
 use mathlib.Core.Path.{_≡_, subst}
@@ -13,10 +13,10 @@ use Rattle.listing.proofs.put_periods.Statement.{statement}
 use Rattle.listing.proofs.put_periods.Tie as tie
 
 abbrev Inv-loop : tie.InvT-loop
-Inv-loop text₀ at n periods end₀ k₀ text end k = PeriodsPut text₀ at periods n k end text
+Inv-loop text₀ at n periods end₀ i₀ text end i = PeriodsPut text₀ at periods n i end text
 
 abbrev μ-loop : tie.MeasureT-loop
-μ-loop text₀ at n periods end₀ k₀ text end k = n - k
+μ-loop text₀ at n periods end₀ i₀ text end i = n - i
 
 loop-holds : tie.Need-loop-holds Inv-loop μ-loop
 loop-holds c = no-period _ _ _ _ (c .pre .2)
@@ -34,10 +34,10 @@ put-spaced-requires : tie.Need-put-spaced-requires Inv-loop μ-loop
 put-spaced-requires c κs =
     let l = c .before .before .before .before .loop in
     let s = c .before .before .before .before .before in
-    omega (arith, l .inv .within, s .pre .1, c .before .before .before .loop-test .taken, period-few (getD (s .args .t3) (l .k) (seconds 0)) (s .pre .0 .each (l .k) (c .before .before .before .loop-test .taken)))
+    omega (arith, l .inv .within, s .pre .1, c .before .before .before .loop-test .taken, period-few (getD (s .args .t3) (l .i) (seconds 0)) (s .pre .0 .each (l .i) (c .before .before .before .loop-test .taken)))
 
-add-k : tie.Need-add-k Inv-loop μ-loop
-add-k c = search needs
+add-i : tie.Need-add-i Inv-loop μ-loop
+add-i c = search needs
 
 loop-less : tie.Need-loop-less Inv-loop μ-loop
 loop-less c = search needs
@@ -46,13 +46,13 @@ loop-again : tie.Need-loop-again Inv-loop μ-loop
 loop-again c =
     let i = c .before .before .before .before in
     let s = i .before .before in
-    one-period _ _ _ _ (i .loop-test .taken) (s .pre .0 .each (i .before .loop .k) (i .loop-test .taken)) (i .before .loop .inv) (c .put-spaced .ensures)
+    one-period _ _ _ _ (i .loop-test .taken) (s .pre .0 .each (i .before .loop .i) (i .loop-test .taken)) (i .before .loop .inv) (c .put-spaced .ensures)
 
 returns : tie.Need-returns Inv-loop μ-loop
 returns c =
     let l = c .before .loop in
     let a = c .before .before .args in
-    let done : l .k ≡ a .n = omega (arith, l .inv .upto, c .loop-test .left) in
+    let done : l .i ≡ a .n = omega (arith, l .inv .upto, c .loop-test .left) in
     (subst (λ (k : ℕ). Puts (a .text .now) (a .at) (spacedPeriods (entries (seconds 0) (a .t3) 0 k)) (l .end) (l .text)) done (l .inv .puts), omega (arith, l .inv .within))
 
 pub put-periods-spec : {M : Type 1} → statement M
@@ -66,7 +66,7 @@ put-periods-spec =
     array-copy-out-t
     cast-put-spaced
     put-spaced-requires
-    add-k
+    add-i
     loop-less
     loop-again
     returns)
