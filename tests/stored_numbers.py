@@ -102,4 +102,5 @@ def main():
     print(f"numbers: {len(right)} lines as the rules give them")
 
 
-main()
+if __name__ == "__main__":
+    main()
