@@ -70,7 +70,8 @@ lineAt l table zero = ifSound (l .verdict) (headerLine (l .profile .n) (l .rows)
 lineAt l table (suc k) = ifSound (l .verdict) (cond (ltb k (l .rows)) (lineOfRow (l .profile) table k) []) []
 
 -- What `prepare` may answer, and leave of a lent table that held `old`: as reading and then building have it. Beside a
--- refused reading the profile is all zeros, which building refuses: there are no rows and no byte changes.
+-- refused reading the profile is all zeros, which building refuses: there are no rows and no byte changes. What is lent is room
+-- for 4,096 rows of sixteen bytes.
 pub record Prepares (input old : List ℕ) (l : Listing) (new : List ℕ) : Type 0 where
   pub reading : Reading
   pub read : Reads input reading

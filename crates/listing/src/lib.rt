@@ -6,12 +6,11 @@ use model::PagesPerHour;
 use model::Profile;
 use model::Seconds;
 use model::Verdict;
-ghost use mathlib.Core.Path.{_≡_};
 ghost use Prim.Native.Nat.{_+_, _*_, _≤_};
 ghost use lib.ListN.{length};
 ghost use Rattle.model.specs.Model.{seconds, entries};
 ghost use Rattle.io.specs.Counts.{Counts};
-ghost use Rattle.listing.specs.Lines.{decimal, spaced, spacedPeriods, refusalLine, headerLine, rowLine, lineOfRow, lineAt, Prepares, Prints};
+ghost use Rattle.listing.specs.Lines.{decimal, spaced, spacedPeriods, refusalLine, headerLine, rowLine, lineOfRow, Prepares, Prints};
 ghost use Rattle.listing.specs.Writing.{Puts, Printable};
 
 // A profile and the number of rows of its table, or why there is none.
@@ -25,6 +24,7 @@ pub struct Listing {
 pub fn prepare(input: &[u8], table: &mut [u8; 65536]) -> Listing
     ensures { λ r. ⌜ Prepares (now (input .entry)) (now (table .entry)) r (now (table .exit)) ⌝ }
 {
+    // As a slice from here on: only a slice's length is known where it is handed back.
     let room: &mut [u8] = table;
     let reading = codec::read_profile(input);
     let profile = reading.profile;
@@ -46,7 +46,8 @@ pub fn prepare(input: &[u8], table: &mut [u8; 65536]) -> Listing
 }
 
 // Puts the k-th line of a listing to the front of `text` and answers its length; where there is no such line, 0.
-// Line 0 is the header or the refusal, line k the table's row k - 1.
+// Line 0 is the header or the refusal, line k the table's row k - 1. The longest line has 72 bytes. The second clause is
+// what lending the line, `&text[..n]`, needs.
 pub fn line(l: Listing, table: &[u8], k: u64, text: &mut [u8; 80]) -> usize
     ensures { λ r. ⌜ Prints l (now (table .entry)) k (now (text .entry)) r (now (text .exit)) ⌝ }
     ensures { λ r. ⌜ Counts r (now (text .exit)) ⌝ }
@@ -165,6 +166,7 @@ fn put(text: &mut [u8; 80], at: usize, bytes: &[u8]) -> usize
     requires { ⌜ at + length (now bytes) ≤ 80 ⌝ }
     ensures { λ r. ⌜ Puts (now (text .entry)) at (now (bytes .entry)) r (now (text .exit)) ⌝ }
 {
+    // As a slice, whose length is known.
     let out: &mut [u8] = text;
     let mut k: usize = 0;
     while k < bytes.len() {

@@ -1,4 +1,4 @@
--- A table row as the code holds it. Cited by the contracts of private functions only. Assumes nothing.
+-- A table row as the code holds it. Only `rowOf` is cited by a public contract, that of `cut_row`. Assumes nothing.
 use mathlib.Core.List.{List, map}
 use Prim.Native.Nat.{ℕ}
 use lib.ListN.{getD, drop}
