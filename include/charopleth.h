@@ -2,20 +2,27 @@
  *
  * A profile as values is n, the number of jobs, and 40 numbers, job after job, five for each: numbers 5i to 5i + 4 are lo,
  * hi, data, metadata and stiffness of job i, counted from 0. lo and hi are the shortest and the longest period in seconds,
- * data and metadata the pages of one run. Jobs beyond n are ignored. Every value may be given; these are refused, the first
- * that applies, with the job's number from 1 as the detail but for 3:
+ * data and metadata the pages of one run. Jobs beyond n are ignored. Every value may be given. Refused are, n first, then
+ * the first bad job, and of a job what stands first here:
  *
- *     3  n is 0 or above 8
- *     5  lo is 0, hi below lo, or hi above 3,600
+ *     3  n is 0 or above 8; the detail is 0
+ *     5  lo is 0, hi below lo, or hi above 3,600; the detail of this and the next two is the job's number from 1
  *     6  stiffness outside 1 to 32
  *     8  data or metadata above 32,767
  *
+ * Periods, one for each job, are permitted when each lies in its job's interval and is a whole multiple of the one before.
+ * Their need is the pages that they write in an hour: 3,600 times the pages of a run, over the period, summed over the jobs
+ * as a fraction and rounded up once. They fit a budget when the need is at most that. A job's rate is its part of that sum
+ * alone, rounded down, and its loss is its stiffness times the square of what the rate falls by against the shortest period;
+ * the loss of a plan is the sum over its jobs.
+ *
  * Each function returns a number of 64 bits: the high 16 bits are the refusal's number, 0 for none, and the low 48 its
- * detail, or where nothing is refused the count that is said below. A detail or count of 2^48 or more, which no memory holds,
- * is told as 2^48 - 1. On a refusal no array and no buffer is changed.
+ * detail, 0 where none is said, or where nothing is refused the count that is said below. A detail or count of 2^48 or more,
+ * which no memory holds, is told as 2^48 - 1. On a refusal no array and no buffer is changed.
  *
  * What is proved holds for pointers to arrays of the length that is said, aligned, not null where the length is not 0, and
- * not overlapping one another. Nothing is kept between calls, and nothing is allocated.
+ * not overlapping one another. Nothing is kept between calls, and nothing is allocated; no call was seen to need more than
+ * 256 KB of stack.
  */
 #ifndef CHAROPLETH_H
 #define CHAROPLETH_H
@@ -34,7 +41,7 @@ extern "C" {
  * and values + 1 are what the other functions take. Returns 0 where they were read. The bytes hold 4 bits of edition, 4 of n,
  * then for each job 12 bits of lo, 12 of hi, 15 of data, 15 of metadata, 6 of stiffness and 4 spare, most significant first.
  * Refuses 1 where there are no bytes, 2 where the edition is not 1, 3 as above, 4 where length is not 1 + 8n; then the first
- * bad job, 5 and 6 as above, and 7 where its spare bits are not zero. */
+ * bad job, 5 and 6 as above, then 7 where its spare bits are not zero, with its number from 1. */
 uint64_t charopleth_read(const uint8_t *profile, size_t length, uint32_t values[41]);
 
 /* A profile's bytes at the front of `room`. Returns their number, 1 + 8n; bytes after them are untouched. Refuses 11 where
@@ -52,10 +59,11 @@ uint64_t charopleth_score(uint32_t n, const uint32_t jobs[40], const uint32_t pe
  * are permitted, and 10 where none fit the budget, with the least budget that would do. */
 uint64_t charopleth_choose(uint32_t n, const uint32_t jobs[40], uint32_t budget, uint64_t answer[10]);
 
-/* The harmonic zones of a profile, a row of sixteen bytes each, at the front of `room`: least and greatest first period and
- * the multipliers a2 to a8, 12 bits each, then 20 zero bits; multipliers beyond n are 0. By a2, then a3, and so on, rising.
- * Returns the number of rows; bytes after them are untouched. Refuses 9 where there are none, and 11 where length / 16 rows
- * are too few, with the number needed. */
+/* The harmonic zones of a profile: lists of multipliers 1, a2 .. an, each a multiple of the one before, with all first periods
+ * for which the multiples lie in the jobs' intervals. A row of sixteen bytes each, at the front of `room`: least and greatest
+ * first period and the multipliers a2 to a8, 12 bits each, then 20 zero bits; multipliers beyond n are 0. By a2, then a3, and
+ * so on, rising. Returns the number of rows; bytes after them are untouched. Refuses 9 where there are none, and 11 where
+ * length / 16 rows are too few, with the number needed. */
 uint64_t charopleth_zones(uint32_t n, const uint32_t jobs[40], uint8_t *room, size_t length);
 
 /* The budget table of a profile, a row of sixteen bytes for each different best answer as the budget goes through all 32-bit

@@ -102,5 +102,4 @@ def main():
     print(f"numbers: {len(right)} lines as the rules give them")
 
 
-if __name__ == "__main__":
-    main()
+main()

@@ -5,6 +5,7 @@ use mathlib.Core.List.{List, [], _++_}
 use mathlib.Core.Bool.{Bool, true, false}
 use Prim.Native.Nat.{ℕ, _+_, _*_, _-_, _/_, _≤_}
 use native.Mathlib.Omega.{arith}
+use native.Mathlib.Nat.{le-refl}
 use lib.ListN.{length, take, drop}
 use lib.Dec.{eqb, ltb}
 use borrow.Author.Tests.{le-ltb, eqb-true}
@@ -13,7 +14,7 @@ use Rattle.model.specs.declared.Profile.{Profile}
 use Rattle.model.specs.declared.Counted.{Counted}
 use Rattle.model.specs.declared.Verdict.{Verdict}
 use Rattle.model.specs.declared.Verdict.the-variants.{Sound, NoPeriods, Room}
-use Rattle.model.specs.Model.{pagesPerHour, jobsOf, periodsOf, need, loss, numberOf, refuseIf, orElse, ifSound, verdictOf}
+use Rattle.model.specs.Model.{seconds, pagesPerHour, jobsOf, periodsOf, need, loss, numberOf, refuseIf, orElse, ifSound, verdictOf}
 use Rattle.model.proofs.Validity.{sound-valid}
 use Rattle.model.proofs.Verdicts.{sound-of-zero, beside-sound}
 use Rattle.score.specs.declared.Scored.{Scored}
@@ -21,7 +22,9 @@ use Rattle.score.specs.Scoring.{scoreVerdict, Scores}
 use Rattle.score.proofs.OneOutcome.{score-one-outcome}
 use Rattle.choose.specs.declared.Choice.{Choice}
 use Rattle.choose.specs.Choice.{refused, Outcome, Chosen}
+use Rattle.walk.specs.Chains.{chains}
 use Rattle.walk.specs.Walk.{start, walk, walkDown}
+use Rattle.walk.proofs.Chains.{multiples-lists, chains-only, chains-all}
 use Rattle.choose.specs.Found.{nothing, pick, none, lessNeed, settle}
 use Rattle.walk.proofs.Falling.{down-lists}
 use Rattle.choose.proofs.Fold.{walk-best}
@@ -37,7 +40,7 @@ use Rattle.table.proofs.OneOutcome.{build-table-one-outcome}
 use Rattle.lookup.specs.Table.{rowsIn}
 use Rattle.lookup.specs.Lookup.{lookupVerdict, lastWithin, answerPlace}
 use Rattle.lookup.proofs.OneOutcome.{locate-one-outcome}
-use Rattle.cases.proofs.Cases.{Case, choosing, scoring, listing, building, lookingUp, Right}
+use Rattle.cases.proofs.Cases.{Case, permitting, choosing, scoring, listing, building, lookingUp, Right}
 
 -- choosing: what both walks leave, unless the profile is refused
 unfoldable pub choiceFor : Profile → ℕ → Choice
@@ -127,6 +130,7 @@ place-beside v k = go (eqb (numberOf v) 0) refl
 
 -- A case with its answer computed.
 unfoldable pub anew : Case → Case
+anew (permitting p verdict lists) = permitting p (verdictOf p) (chains (seconds 1) (jobsOf p))
 anew (choosing p b answer) = choosing p b (choiceFor p b)
 anew (scoring p ts answer) = scoring p ts (scoreFor p ts)
 anew (listing p answer bytes) = listing p (countFor p (length (zonesOf p))) (bytesFor p (length (zonesOf p)) (rowsOf (zonesOf p)))
@@ -138,6 +142,12 @@ anew (lookingUp p table b answer bytes) =
 
 pub anew-right : (c : Case) → Right (anew c)
 unfolding anew counted listVerdict buildVerdict answerPlace
+anew-right (permitting p verdict lists) = (
+  refl,
+  λ sound ts.
+      (let v = sound-valid p sound .jobs in
+      (chains-all multiples-lists (jobsOf p) ts v (le-refl 1), chains-only multiples-lists (jobsOf p) ts v (le-refl 1))),
+)
 anew-right (choosing p b answer) = λ r chosen. choose-one-outcome p (pagesPerHour b) chosen (choice-meets p b)
 anew-right (scoring p ts answer) = λ r scores. score-one-outcome p ts scores (score-meets p ts)
 anew-right (listing p answer bytes) = λ old room r new listed.

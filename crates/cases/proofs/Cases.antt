@@ -1,7 +1,8 @@
 -- Document 01's numbers as one list: an entry says what is asked, of which profile, and what must come out.
 -- Assumes nothing.
 use mathlib.Core.Path.{_≡_}
-use mathlib.Core.List.{List, [], _∷_, _++_, map}
+use mathlib.Core.Logic.{_↔_}
+use mathlib.Core.List.{List, [], _∷_, _++_, map, List·Memᴰ}
 use Prim.Native.Nat.{ℕ, _+_, _*_, _-_, _/_, _≤_}
 use lib.ListN.{length, take, drop, replicate}
 use Rattle.model.specs.declared.Seconds.{Seconds}
@@ -10,7 +11,7 @@ use Rattle.model.specs.declared.Profile.{Profile}
 use Rattle.model.specs.declared.Counted.{Counted}
 use Rattle.model.specs.declared.Verdict.{Verdict}
 use Rattle.model.specs.declared.Verdict.the-variants.{Sound, NoPeriods, Budget, Row}
-use Rattle.model.specs.Model.{seconds, pagesPerHour}
+use Rattle.model.specs.Model.{seconds, pagesPerHour, jobsOf, Permitted, verdictOf}
 use Rattle.score.specs.declared.Scored.{Scored}
 use Rattle.score.specs.Scoring.{Scores}
 use Rattle.choose.specs.declared.Choice.{Choice}
@@ -21,14 +22,16 @@ use Rattle.lookup.specs.Lookup.{LooksUp, Locates, Tells}
 
 -- What is asked of a profile, then what must come out: the answer, and the bytes of the rows written or of the row handed back.
 pub data Case : Type 0 where
+  permitting : Profile → Verdict → (lists : List (List Seconds)) → Case
   choosing : Profile → (budget : ℕ) → Choice → Case
   scoring : Profile → (periods : List Seconds) → Scored → Case
   listing : Profile → Counted → (bytes : List ℕ) → Case
   building : Profile → Counted → (bytes : List ℕ) → Case
   lookingUp : Profile → (table : List ℕ) (budget : ℕ) → Counted → (bytes : List ℕ) → Case
 
--- Whatever the public contract allows is what must come out; zones and table are written into any room that is enough.
+-- The permitted lists are these and no others; whatever the public contract allows is what must come out; zones and table are written into any room that is enough.
 abbrev pub Right : Case → Type 0
+Right (permitting p verdict lists) = (verdictOf p ≡ verdict) × (verdict ≡ Sound → (ts : List Seconds) → Permitted (jobsOf p) ts ↔ List·Memᴰ ts lists)
 Right (choosing p b answer) = (r : Choice) → Chosen p (pagesPerHour b) r → r ≡ answer
 Right (scoring p ts answer) = (r : Scored) → Scores p ts r → r ≡ answer
 Right (listing p answer bytes) =
@@ -125,6 +128,20 @@ fiveZones =
     ∷ (0x00 ∷ 0x60 ∷ 0x06 ∷ 0x00 ∷ 0x30 ∷ 0x06 ∷ [])
     ∷ [])
 
+abbrev nineLists : List (List Seconds)
+nineLists =
+    map (map seconds)
+    ((6 ∷ 12 ∷ 24 ∷ [])
+    ∷ (6 ∷ 12 ∷ 36 ∷ [])
+    ∷ (6 ∷ 18 ∷ 36 ∷ [])
+    ∷ (7 ∷ 14 ∷ 28 ∷ [])
+    ∷ (7 ∷ 21 ∷ 21 ∷ [])
+    ∷ (8 ∷ 16 ∷ 32 ∷ [])
+    ∷ (9 ∷ 18 ∷ 36 ∷ [])
+    ∷ (10 ∷ 20 ∷ 20 ∷ [])
+    ∷ (10 ∷ 20 ∷ 40 ∷ [])
+    ∷ [])
+
 unfoldable pub cases : List Case
 cases =
     -- P1
@@ -143,7 +160,8 @@ cases =
     ∷ building profileA (number 9) tableA
     -- P5
     ∷ listing profileA (number 3) zonesA
-    -- P6: the one zone, (1,5,35) for 1, holds every permitted list
+    -- P6
+    ∷ permitting (profile (interval 1 1 ∷ interval 2 6 ∷ interval 35 35 ∷ [])) Sound (map (map seconds) ((1 ∷ 5 ∷ 35 ∷ []) ∷ []))
     ∷ choosing (profile (interval 1 1 ∷ interval 2 6 ∷ interval 35 35 ∷ [])) 0xffff_ffff (plan 4423 1166400 (1 ∷ 5 ∷ 35 ∷ []))
     ∷ listing (profile (interval 1 1 ∷ interval 2 6 ∷ interval 35 35 ∷ [])) (number 1) (rows ((0x00 ∷ 0x10 ∷ 0x01 ∷ 0x00 ∷ 0x50 ∷ 0x23 ∷ []) ∷ []))
     -- P7
@@ -167,8 +185,9 @@ cases =
     ∷ choosing (profile (interval 10 10 ∷ job 10 40 20 0 32 ∷ interval 20 30 ∷ [])) 100000 (plan 7740 0 (10 ∷ 10 ∷ 20 ∷ []))
     -- a stiffness other than 1: 3 times the square of 1,028 less 102
     ∷ scoring (profile (job 7 70 1 1 3 ∷ [])) (eight (70 ∷ [])) (scored 103 2572428)
-    -- five zones
+    -- five zones and nine lists
     ∷ listing (profile (interval 6 10 ∷ interval 11 22 ∷ interval 19 40 ∷ [])) (number 5) fiveZones
+    ∷ permitting (profile (interval 6 10 ∷ interval 11 22 ∷ interval 19 40 ∷ [])) Sound nineLists
     -- a table that is not complete
     ∷ lookingUp profileA (rows (row₁ ∷ row₂ ∷ [])) 4499 (number 1) (rows (row₁ ∷ []))
     ∷ lookingUp profileA (rows (row₁ ∷ row₂ ∷ [])) 4500 (number 2) (rows (row₂ ∷ []))

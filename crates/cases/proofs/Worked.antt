@@ -6,7 +6,7 @@ use Rattle.model.specs.Model.{entries, lastOf, pagesIn, need, rate, jobLoss, lo
 use Rattle.codec.specs.Packing.{bits, pack, unpack, recut}
 use Rattle.codec.specs.Rows.{tableRow}
 use Rattle.score.specs.Scoring.{judgePeriod, firstUnpermitted, scoreVerdict}
-use Rattle.walk.specs.Chains.{climb, risingFrom, multiples, descend, fallingFrom, multiplesDown}
+use Rattle.walk.specs.Chains.{climb, risingFrom, multiples, descend, fallingFrom, multiplesDown, chainsBy}
 use Rattle.walk.specs.Walk.{visit, walkBy}
 use Rattle.choose.specs.Found.{beats, pick, lessNeed, settle}
 use Rattle.zones.specs.Listing.{climb as climbUp, upTo as upToLast, unlessEmpty, zonesBelow, zonesIn}
@@ -19,7 +19,7 @@ use Rattle.cases.proofs.Cases.{Case, Right, cases}
 use Rattle.cases.proofs.Anew.{choiceFor, scoreFor, counted, roomy, countFor, bytesFor, anew, anew-right}
 
 computed : map anew cases ≡ cases
-unfolding cases anew choiceFor scoreFor counted roomy countFor bytesFor settle walkBy visit pick lessNeed beats multiples risingFrom climb multiplesDown fallingFrom descend rate jobLoss entries verdictOf refuseIf orElse ifSound firstRefused judgeIntervalAndStiffness judgeJob need loss pagesIn lastOf scoreVerdict firstUnpermitted judgePeriod zonesIn zonesBelow unlessEmpty upToLast climbUp flatMap rowsOf recut pack unpack bits tableBytes tableRow descent upTo lookupVerdict tableVerdict firstBad rowRight placesRight placeRight allows follows rowFields lastWithin
+unfolding cases anew chainsBy choiceFor scoreFor counted roomy countFor bytesFor settle walkBy visit pick lessNeed beats multiples risingFrom climb multiplesDown fallingFrom descend rate jobLoss entries verdictOf refuseIf orElse ifSound firstRefused judgeIntervalAndStiffness judgeJob need loss pagesIn lastOf scoreVerdict firstUnpermitted judgePeriod zonesIn zonesBelow unlessEmpty upToLast climbUp flatMap rowsOf recut pack unpack bits tableBytes tableRow descent upTo lookupVerdict tableVerdict firstBad rowRight placesRight placeRight allows follows rowFields lastWithin
 computed = refl
 
 same-head : {A : Type 0} {x y : A} {xs ys : List A} → x ∷ xs ≡ y ∷ ys → x ≡ y

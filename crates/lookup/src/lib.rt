@@ -1,7 +1,7 @@
 // Looking a budget up in a table: the row that answers it, as the caller's own bytes, or why there is none.
 //
 // specs/Table.antt says when a table is well formed and which row answers, specs/Lookup.antt what is answered;
-// specs/Cut.antt and specs/Checks.antt serve the private functions alone. Nothing is assumed, and no public function has
+// specs/Cut.antt says how a row is held, and specs/Checks.antt serves the private functions alone. Nothing is assumed, and no public function has
 // a `requires`.
 use model::Counted;
 use model::Job;

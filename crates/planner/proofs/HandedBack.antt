@@ -18,6 +18,6 @@ placed : (p : Profile) → profileIn (p .n) (drop 1 (numbersOf p)) ≡ record { 
 unfolding numbersOf jobsNumbers entries
 placed p = refl
 
--- what `charopleth_read` puts into an array can be handed to the other functions: n first, then the 40 numbers behind it
+-- the numbers that `charopleth_read` stores can be handed to the other functions: n first, then the 40 numbers behind it
 pub handed-back : (p : Profile) → length (p .jobs) ≡ 8 → profileIn (p .n) (drop 1 (numbersOf p)) ≡ p
 handed-back p h = placed p ∙ ap {B = Profile} (λ (js : List Job). record { n = p .n; jobs = js }) (eight-entries (p .jobs) h)

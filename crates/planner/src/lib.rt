@@ -1,4 +1,4 @@
-// The planner: everything public in one place. Rattle's callers get the values and the operations under their own names,
+// The planner: everything that callers use in one place. Rattle's callers get the values and the operations under their own names,
 // C gets the functions that include/charopleth.h declares.
 //
 // Each operation's contract stands where it is made; docs/CONTRACTS.md lists them in reading order. specs/ForC.antt says

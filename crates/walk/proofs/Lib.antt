@@ -6,7 +6,6 @@ pub mod Floors
 pub mod Walk
 pub mod Loops
 pub mod Bounds
-pub mod Numbers
 pub mod Held
 pub mod FloorTurn
 pub mod Cuts

@@ -1,5 +1,5 @@
 -- How a profile's numbers stand in the arrays that the walks are lent: `spans` in seconds, `runs` in pages of a run, `rates` in
--- pages per hour, `weights` for the stiffnesses. The contracts of private functions cite this, and no public one.
+-- pages per hour, `weights` for the stiffnesses. Contracts of inner functions cite this, and those of no entry point.
 -- Assumes nothing.
 use mathlib.Core.Path.{_≡_}
 use mathlib.Core.List.{List, [], _∷_}

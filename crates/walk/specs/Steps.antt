@@ -1,4 +1,4 @@
--- What the functions that every walk shares ask and promise. Contracts of inner functions cite this, and no public one.
+-- What the functions that every walk shares ask and promise. Contracts of inner functions cite this, and those of no entry point.
 -- Assumes nothing.
 use mathlib.Core.Path.{_≡_}
 use mathlib.Core.List.{List, [], map}

@@ -1,4 +1,4 @@
--- `ladder::main` is safe and ends: it prints no line beyond the last row's.
+-- `ladder::main` is safe and ends. What it reads and writes no contract can say.
 -- Assumes nothing.
 use Prim.Native.Nat.{_≤_, _-_}
 use borrow.Author.Needs.{needs}
