@@ -1,1 +1,2 @@
 pub mod Stairs
+pub mod Rows
