@@ -1,25 +1,42 @@
--- How a staircase stands in an array, ten numbers for a row: eight periods, need, loss. Contracts of inner functions cite this, and no public one.
--- Assumes nothing.
+-- How a staircase stands in an array, three numbers for a row: the two words of a table row, need and eight periods, and the
+-- loss. Contracts of inner functions cite this, and no public one. Assumes nothing.
 use mathlib.Core.Path.{_≡_}
-use mathlib.Core.List.{List, [], _∷_}
-use Prim.Native.Nat.{ℕ, zero, suc, _+_, _*_, _-_, _≤_, _<_}
-use lib.ListN.{length, getD, drop}
+use mathlib.Core.List.{List, [], _∷_, _++_}
+use Prim.Native.Nat.{ℕ, zero, suc, _+_, _*_, _-_, _/_, _%_, _^_, _≤_, _<_}
+use lib.ListN.{length, getD}
 use Rattle.walk.specs.Steps.{periodsIn}
-use Rattle.stairs.specs.Stairs.{Stair, stair, Stairs}
+use Rattle.stairs.specs.Stairs.{Stair, stair, Stairs, atMost}
 
 -- The greatest number of rows.
 abbrev pub most : ℕ
 most = 256
 
+-- The two words of a need and eight periods: the third period stands in both.
+abbrev pub highWord : ℕ → List ℕ → ℕ
+highWord q ps = q * 2 ^ 32 + (getD ps 0 0 * 2 ^ 20 + (getD ps 1 0 * 2 ^ 8 + getD ps 2 0 / 2 ^ 4))
+
+abbrev pub lowWord : List ℕ → ℕ
+lowWord ps = getD ps 2 0 % 2 ^ 4 * 2 ^ 60 + (getD ps 3 0 * 2 ^ 48 + (getD ps 4 0 * 2 ^ 36 + (getD ps 5 0 * 2 ^ 24 + (getD ps 6 0 * 2 ^ 12 + getD ps 7 0))))
+
+-- The eight periods of two words.
+unfoldable pub periodsOf : ℕ → ℕ → List ℕ
+periodsOf high low =
+    (high % 2 ^ 32 / 2 ^ 20) ∷ ((high % 2 ^ 20 / 2 ^ 8) ∷ ((high % 2 ^ 8 * 2 ^ 4 + low / 2 ^ 60) ∷
+    ((low % 2 ^ 60 / 2 ^ 48) ∷ ((low % 2 ^ 48 / 2 ^ 36) ∷ ((low % 2 ^ 36 / 2 ^ 24) ∷ ((low % 2 ^ 24 / 2 ^ 12) ∷ ((low % 2 ^ 12) ∷ [])))))))
+
 abbrev pub needIn : List ℕ → ℕ → ℕ
-needIn flat i = getD flat (10 * i + 8) 0
+needIn flat i = getD flat (3 * i) 0 / 2 ^ 32
 
 abbrev pub lossIn : List ℕ → ℕ → ℕ
-lossIn flat i = getD flat (10 * i + 9) 0
+lossIn flat i = getD flat (3 * i + 2) 0
+
+-- The eight periods at place i.
+abbrev pub periodsAt : List ℕ → ℕ → List ℕ
+periodsAt flat i = periodsOf (getD flat (3 * i) 0) (getD flat (3 * i + 1) 0)
 
 -- The row at place i, with n periods.
 unfoldable pub rowAt : ℕ → List ℕ → ℕ → Stair
-rowAt n flat i = stair (needIn flat i) (lossIn flat i) (periodsIn n (drop (10 * i) flat))
+rowAt n flat i = stair (needIn flat i) (lossIn flat i) (periodsIn n (periodsAt flat i))
 
 -- k rows from place i on.
 unfoldable pub rowsFrom : ℕ → List ℕ → ℕ → ℕ → List Stair
@@ -54,15 +71,64 @@ pub record NeedsLess (flat : List ℕ) (i k q r : ℕ) : Type 0 where
 
 -- The rows before place i stand, and those from place j to place e follow place i.
 pub record Moved (i j e : ℕ) (flat flat′ : List ℕ) : Type 0 where
-  pub size : length flat′ ≡ 2560
-  pub front : (x : ℕ) → x < 10 * i → getD flat′ x 0 ≡ getD flat x 0
-  pub moved : (x : ℕ) → x < 10 * (e - j) → getD flat′ (10 * (i + 1) + x) 0 ≡ getD flat (10 * j + x) 0
+  pub size : length flat′ ≡ 768
+  pub front : (x : ℕ) → x < 3 * i → getD flat′ x 0 ≡ getD flat x 0
+  pub moved : (x : ℕ) → x < 3 * (e - j) → getD flat′ (3 * (i + 1) + x) 0 ≡ getD flat (3 * j + x) 0
 
--- The row at place i has these numbers, and the other rows stand.
-pub record Stored (n i need loss : ℕ) (ps flat flat′ : List ℕ) : Type 0 where
-  pub size : length flat′ ≡ 2560
-  pub front : (x : ℕ) → x < 10 * i → getD flat′ x 0 ≡ getD flat x 0
-  pub behind : (x : ℕ) → 10 * (i + 1) ≤ x → getD flat′ x 0 ≡ getD flat x 0
-  pub periods : (x : ℕ) → x < n → getD flat′ (10 * i + x) 0 ≡ getD ps x 0
+-- Eight periods within the hour.
+pub record Periods (ps : List ℕ) : Type 0 where
+  pub size : length ps ≡ 8
+  pub to : (k : ℕ) → getD ps k 0 ≤ 3600
+
+-- Periods that fit their fields.
+pub record Fields (ps : List ℕ) : Type 0 where
+  pub size : length ps ≡ 8
+  pub t1 : getD ps 0 0 ≤ 3600
+  pub t2 : getD ps 1 0 ≤ 3600
+  pub t3 : getD ps 2 0 ≤ 3600
+  pub t4 : getD ps 3 0 ≤ 3600
+  pub t5 : getD ps 4 0 ≤ 3600
+  pub t6 : getD ps 5 0 ≤ 3600
+  pub t7 : getD ps 6 0 ≤ 3600
+  pub t8 : getD ps 7 0 ≤ 3600
+
+-- No period stands from place n on.
+abbrev pub Blank : ℕ → List ℕ → Type 0
+Blank n ps = (k : ℕ) → n ≤ k → getD ps k 0 ≡ 0
+
+-- The row at place i is this plan, and the other rows stand.
+pub record Stored (i need loss : ℕ) (ps flat flat′ : List ℕ) : Type 0 where
+  pub size : length flat′ ≡ 768
+  pub front : (x : ℕ) → x < 3 * i → getD flat′ x 0 ≡ getD flat x 0
+  pub behind : (x : ℕ) → 3 * (i + 1) ≤ x → getD flat′ x 0 ≡ getD flat x 0
   pub its-need : needIn flat′ i ≡ need
   pub its-loss : lossIn flat′ i ≡ loss
+  pub periods : periodsAt flat′ i ≡ ps
+
+-- A plan of need q and loss l belongs to place i of k rows: the rows before lose less and need more, those from place j on
+-- lose more and need less, and those between, which do not cover it, have no less of both.
+pub record Place (k : ℕ) (flat : List ℕ) (q l i j : ℕ) : Type 0 where
+  pub order : i ≤ j
+  pub upto : j ≤ k
+  pub above-loss : (a : ℕ) → a < i → lossIn flat a < l
+  pub above-need : (a : ℕ) → a < i → q < needIn flat a
+  pub between-loss : (a : ℕ) → i ≤ a → a < j → l ≤ lossIn flat a
+  pub between-need : (a : ℕ) → i ≤ a → a < j → q ≤ needIn flat a
+  pub between-new : (a : ℕ) → i ≤ a → a < j → lossIn flat a ≤ l → q < needIn flat a
+  pub below-loss : (a : ℕ) → j ≤ a → a < k → l < lossIn flat a
+  pub below-need : (a : ℕ) → j ≤ a → a < k → needIn flat a < q
+
+-- Room for n periods, and a staircase of n periods each in rows and marks.
+pub record Standing (n : ℕ) (ps flat marks : List ℕ) : Type 0 where
+  pub periods : Periods ps
+  pub blank : Blank n ps
+  pub rows-size : length flat ≡ 768
+  pub marks-size : length marks ≡ 2
+  pub count-to : getD marks 0 0 ≤ 256
+  pub rises : Rises (getD marks 0 0) flat
+  pub blanks : (a : ℕ) → a < getD marks 0 0 → Blank n (periodsAt flat a)
+
+-- The plan stands at place i, before what stood from place j on, and at most so many rows.
+pub record Puts (n q l i j : ℕ) (ps flat marks flat′ marks′ : List ℕ) : Type 0 where
+  pub stands : Standing n ps flat′ marks′
+  pub is : stairsOf n flat′ marks′ ≡ atMost most (rowsFrom n flat 0 i ++ (stair q l (periodsIn n ps) ∷ rowsFrom n flat j (getD marks 0 0 - j))) (getD marks 1 0)

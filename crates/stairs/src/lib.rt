@@ -5,16 +5,65 @@
 use model::PagesPerHour;
 ghost use mathlib.Core.Path.{_≡_};
 ghost use Prim.Native.Nat.{_≤_, _<_};
-ghost use lib.ListN.{length};
-ghost use Rattle.stairs.specs.Rows.{LosesLess, NeedsLess, Moved, Stored};
+ghost use lib.ListN.{length, getD};
+ghost use Rattle.stairs.specs.Rows.{highWord, lowWord, Periods, Fields, LosesLess, NeedsLess, Moved, Stored, Place, Standing, Puts};
 
-// Where a row has its need and its loss, behind eight periods.
-const NEED: usize = 8;
+// Where a row has its loss, behind its two words.
+const LOSS: usize = 2;
 
-const LOSS: usize = 9;
+// Above a need stand 32 bits of periods.
+const NEED: u64 = 0x1_0000_0000;
+
+// The greatest number of rows, and where the last of them has its loss.
+const MOST: usize = 256;
+
+const LAST_LOSS: usize = 767;
+
+// The marks: how many rows there are, and the bound on the loss of what may still enter.
+const COUNT: usize = 0;
+
+const BOUND: usize = 1;
+
+// A plan becomes the row at place i, where the rows from there to place j leave. Of too many rows the last one leaves, and
+// its loss becomes the bound.
+fn put_plan(
+    n: usize,
+    need: PagesPerHour,
+    loss: u64,
+    periods: &[u32; 8],
+    i: usize,
+    j: usize,
+    rows: &mut [u64; 768],
+    marks: &mut [u64; 2],
+)
+    requires { ⌜ Standing n (now periods) (now rows) (now marks) ⌝ }
+    requires { ⌜ Place (getD (now marks) 0 0) (now rows) (need .0) loss i j ⌝ }
+    ensures { λ _. ⌜ Puts n (need .0) loss i j (now (periods .entry)) (now (rows .entry)) (now (marks .entry)) (now (rows .exit)) (now (marks .exit)) ⌝ }
+{
+    let count = marks[COUNT] as usize;
+    if i < j {
+        close_gap(rows, i, j, count);
+        store_row(need, loss, periods, i, rows);
+        marks[COUNT] = (i + 1 + (count - j)) as u64;
+        return;
+    }
+    if count < MOST {
+        open_gap(rows, i, count);
+        store_row(need, loss, periods, i, rows);
+        marks[COUNT] = (count + 1) as u64;
+        return;
+    }
+    if i == MOST {
+        marks[BOUND] = loss;
+        return;
+    }
+    marks[BOUND] = rows[LAST_LOSS];
+    open_gap(rows, i, MOST - 1);
+    store_row(need, loss, periods, i, rows);
+}
 
 // How many rows lose less than `loss`, where rows rise in loss.
-fn losing_less(rows: &[u64; 2560], count: usize, loss: u64) -> usize
+fn losing_less(rows: &[u64; 768], count: usize, loss: u64) -> usize
     requires { ⌜ count ≤ 256 ⌝ }
     ensures { λ r. ⌜ LosesLess (now (rows .entry)) count loss r ⌝ }
 {
@@ -22,7 +71,7 @@ fn losing_less(rows: &[u64; 2560], count: usize, loss: u64) -> usize
     let mut to = count;
     while from < to {
         let half = (from + to) / 2;
-        if rows[10 * half + LOSS] < loss {
+        if rows[3 * half + LOSS] < loss {
             from = half + 1;
             continue;
         }
@@ -32,7 +81,7 @@ fn losing_less(rows: &[u64; 2560], count: usize, loss: u64) -> usize
 }
 
 // The first row from place i on that needs less.
-fn needing_less(rows: &[u64; 2560], i: usize, count: usize, need: PagesPerHour) -> usize
+fn needing_less(rows: &[u64; 768], i: usize, count: usize, need: PagesPerHour) -> usize
     requires { ⌜ i ≤ count ⌝ }
     requires { ⌜ count ≤ 256 ⌝ }
     ensures { λ r. ⌜ NeedsLess (now (rows .entry)) i count (need .0) r ⌝ }
@@ -40,7 +89,7 @@ fn needing_less(rows: &[u64; 2560], i: usize, count: usize, need: PagesPerHour) 
     let least = need.0 as u64;
     let mut j = i;
     while j < count {
-        if rows[10 * j + NEED] < least {
+        if rows[3 * j] / NEED < least {
             return j;
         }
         j += 1;
@@ -49,35 +98,35 @@ fn needing_less(rows: &[u64; 2560], i: usize, count: usize, need: PagesPerHour) 
 }
 
 // The rows from place i to place e move up by one place.
-fn open_gap(rows: &mut [u64; 2560], i: usize, e: usize)
-    requires { ⌜ length (now rows) ≡ 2560 ⌝ }
+fn open_gap(rows: &mut [u64; 768], i: usize, e: usize)
+    requires { ⌜ length (now rows) ≡ 768 ⌝ }
     requires { ⌜ i ≤ e ⌝ }
     requires { ⌜ e < 256 ⌝ }
     ensures { λ _. ⌜ Moved i i e (now (rows .entry)) (now (rows .exit)) ⌝ }
 {
-    let first = 10 * i;
-    let mut p = 10 * e;
+    let first = 3 * i;
+    let mut p = 3 * e;
     while first < p {
         p -= 1;
         let x = rows[p];
-        rows[p + 10] = x;
+        rows[p + 3] = x;
     }
 }
 
 // The rows from place j to place e move down, to behind place i.
-fn close_gap(rows: &mut [u64; 2560], i: usize, j: usize, e: usize)
-    requires { ⌜ length (now rows) ≡ 2560 ⌝ }
+fn close_gap(rows: &mut [u64; 768], i: usize, j: usize, e: usize)
+    requires { ⌜ length (now rows) ≡ 768 ⌝ }
     requires { ⌜ i < j ⌝ }
     requires { ⌜ j ≤ e ⌝ }
     requires { ⌜ e ≤ 256 ⌝ }
     ensures { λ _. ⌜ Moved i j e (now (rows .entry)) (now (rows .exit)) ⌝ }
 {
-    let to = 10 * (i + 1);
-    let from = 10 * j;
+    let to = 3 * (i + 1);
+    let from = 3 * j;
     if to == from {
         return;
     }
-    let size = 10 * (e - j);
+    let size = 3 * (e - j);
     let mut x: usize = 0;
     while x < size {
         let y = rows[from + x];
@@ -87,27 +136,36 @@ fn close_gap(rows: &mut [u64; 2560], i: usize, j: usize, e: usize)
 }
 
 // A plan becomes the row at place i.
-fn store_row(
-    n: usize,
-    need: PagesPerHour,
-    loss: u64,
-    periods: &[u32; 8],
-    i: usize,
-    rows: &mut [u64; 2560],
-)
-    requires { ⌜ n ≤ 8 ⌝ }
+fn store_row(need: PagesPerHour, loss: u64, periods: &[u32; 8], i: usize, rows: &mut [u64; 768])
+    requires { ⌜ Periods (now periods) ⌝ }
     requires { ⌜ i < 256 ⌝ }
-    requires { ⌜ length (now rows) ≡ 2560 ⌝ }
-    ensures { λ _. ⌜ Stored n i (need .0) loss (now (periods .entry)) (now (rows .entry)) (now (rows .exit)) ⌝ }
+    requires { ⌜ length (now rows) ≡ 768 ⌝ }
+    ensures { λ _. ⌜ Stored i (need .0) loss (now (periods .entry)) (now (rows .entry)) (now (rows .exit)) ⌝ }
 {
-    let first = 10 * i;
-    let mut k: usize = 0;
-    while k < n {
-        rows[first + k] = wide(periods[k]);
-        k += 1;
-    }
-    rows[first + NEED] = need.0 as u64;
+    let first = 3 * i;
+    rows[first] = high_word(need, periods);
+    rows[first + 1] = low_word(periods);
     rows[first + LOSS] = loss;
+}
+
+// The first eight bytes of a table row: the need, the first two periods and the eight high bits of the third.
+fn high_word(need: PagesPerHour, periods: &[u32; 8]) -> u64
+    requires { ⌜ Fields (now periods) ⌝ }
+    ensures { λ r. ⌜ r ≡ highWord (need .0) (now (periods .entry)) ⌝ }
+{
+    wide(need.0) * NEED
+        + (wide(periods[0]) * 0x10_0000 + (wide(periods[1]) * 0x100 + wide(periods[2]) / 0x10))
+}
+
+// The last eight bytes: the four low bits of the third period and the last five.
+fn low_word(periods: &[u32; 8]) -> u64
+    requires { ⌜ Fields (now periods) ⌝ }
+    ensures { λ r. ⌜ r ≡ lowWord (now (periods .entry)) ⌝ }
+{
+    wide(periods[2]) % 0x10 * 0x1000_0000_0000_0000
+        + (wide(periods[3]) * 0x1_0000_0000_0000
+            + (wide(periods[4]) * 0x10_0000_0000
+                + (wide(periods[5]) * 0x100_0000 + (wide(periods[6]) * 0x1000 + wide(periods[7])))))
 }
 
 fn wide(x: u32) -> u64

@@ -11,7 +11,7 @@ abbrev Inv-loop : tie.InvT-loop
 Inv-loop rows₀ i j e to from size x₀ rows x = Closing i j e rows₀ rows x
 
 abbrev μ-loop : tie.MeasureT-loop
-μ-loop rows₀ i j e to from size x₀ rows x = 10 * (e - j) - x
+μ-loop rows₀ i j e to from size x₀ rows x = 3 * (e - j) - x
 
 add-to : tie.Need-add-to Inv-loop μ-loop
 add-to c = search needs

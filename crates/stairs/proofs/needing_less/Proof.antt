@@ -23,9 +23,6 @@ loop-holds c = (omega arith, omega arith, λ a h k. absurd (omega arith))
 mul-if1 : tie.Need-mul-if1 Inv-loop μ-loop
 mul-if1 c = search needs
 
-add-if1 : tie.Need-add-if1 Inv-loop μ-loop
-add-if1 c = search needs
-
 mul-if1-2 : tie.Need-mul-if1-2 Inv-loop μ-loop
 mul-if1-2 c = search needs
 
@@ -62,7 +59,6 @@ needing-less-spec =
     cast-least
     loop-holds
     mul-if1
-    add-if1
     mul-if1-2
     element-copy-out-if1
     returns

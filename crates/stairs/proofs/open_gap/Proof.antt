@@ -1,4 +1,4 @@
--- `stairs::open_gap` meets its contract: the numbers from p on have moved by ten.
+-- `stairs::open_gap` meets its contract: the numbers from p on have moved by three.
 -- Assumes nothing.
 use Rattle.stairs.proofs.Moves.{Opening, opening-starts, opening-turn, opening-done}
 use borrow.Author.Needs.{needs}
