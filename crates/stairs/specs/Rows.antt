@@ -1,11 +1,14 @@
 -- How a staircase stands in an array, three numbers for a row: the two words of a table row, need and eight periods, and the
 -- loss. Contracts of inner functions cite this, and no public one. Assumes nothing.
 use mathlib.Core.Path.{_≡_}
+use mathlib.Core.Bool.{Bool, true, false}
 use mathlib.Core.List.{List, [], _∷_, _++_}
 use Prim.Native.Nat.{ℕ, zero, suc, _+_, _*_, _-_, _/_, _%_, _^_, _≤_, _<_}
 use lib.ListN.{length, getD}
-use Rattle.walk.specs.Steps.{periodsIn}
-use Rattle.stairs.specs.Stairs.{Stair, stair, Stairs, atMost}
+use Rattle.model.specs.declared.Seconds.{Seconds}
+use Rattle.model.specs.declared.PagesPerHour.{PagesPerHour}
+use Rattle.walk.specs.Steps.{needAt, periodsIn}
+use Rattle.stairs.specs.Stairs.{Stair, stair, Stairs, atMost, enter}
 
 -- The greatest number of rows.
 abbrev pub most : ℕ
@@ -61,6 +64,11 @@ pub record LosesLess (flat : List ℕ) (k l r : ℕ) : Type 0 where
   pub upto : r ≤ k
   pub less : 0 < r → lossIn flat (r - 1) < l
   pub no-less : r < k → l ≤ lossIn flat r
+
+-- Whether some of k rows has at most the need q and at most the loss l.
+pub record Covers (flat : List ℕ) (k q l : ℕ) (r : Bool) : Type 0 where
+  pub some : r ≡ true → (a : ℕ) × (a < k) × (needIn flat a ≤ q) × (lossIn flat a ≤ l)
+  pub none : r ≡ false → (a : ℕ) → a < k → lossIn flat a ≤ l → q < needIn flat a
 
 -- From the i-th of k rows on, the r-th is the first that needs less than q.
 pub record NeedsLess (flat : List ℕ) (i k q r : ℕ) : Type 0 where
@@ -132,3 +140,8 @@ pub record Standing (n : ℕ) (ps flat marks : List ℕ) : Type 0 where
 pub record Puts (n q l i j : ℕ) (ps flat marks flat′ marks′ : List ℕ) : Type 0 where
   pub stands : Standing n ps flat′ marks′
   pub is : stairsOf n flat′ marks′ ≡ atMost most (rowsFrom n flat 0 i ++ (stair q l (periodsIn n ps) ∷ rowsFrom n flat j (getD marks 0 0 - j))) (getD marks 1 0)
+
+-- What stands after one plan more.
+pub record Enters (n : ℕ) (b : PagesPerHour) (t : Seconds) (written lost : ℕ) (ps flat marks flat′ marks′ : List ℕ) : Type 0 where
+  pub stands : Standing n ps flat′ marks′
+  pub is : stairsOf n flat′ marks′ ≡ enter most (b .0) (needAt written t) lost (periodsIn n ps) (stairsOf n flat marks)

@@ -3,10 +3,13 @@
 // specs/Stairs.antt says what the walk keeps, specs/Rows.antt how that stands in an array. Contracts of inner functions
 // cite both, and no public one. Nothing is assumed.
 use model::PagesPerHour;
+use model::Seconds;
 ghost use mathlib.Core.Path.{_≡_};
 ghost use Prim.Native.Nat.{_≤_, _<_};
 ghost use lib.ListN.{length, getD};
-ghost use Rattle.stairs.specs.Rows.{highWord, lowWord, Periods, Fields, LosesLess, NeedsLess, Moved, Stored, Place, Standing, Puts};
+ghost use Rattle.walk.specs.Steps.{NeedFits};
+ghost use Rattle.stairs.specs.Stairs.{noBound};
+ghost use Rattle.stairs.specs.Rows.{highWord, lowWord, Periods, Fields, Rises, LosesLess, Covers, NeedsLess, Moved, Stored, Place, Standing, Puts, Enters};
 
 // Where a row has its loss, behind its two words.
 const LOSS: usize = 2;
@@ -23,6 +26,38 @@ const LAST_LOSS: usize = 767;
 const COUNT: usize = 0;
 
 const BOUND: usize = 1;
+
+// One whole plan: it enters if it fits the budget, loses less than the bound, and no row covers it.
+fn enter_plan(
+    n: usize,
+    budget: PagesPerHour,
+    t: Seconds,
+    written: u64,
+    lost: u64,
+    periods: &[u32; 8],
+    rows: &mut [u64; 768],
+    marks: &mut [u64; 2],
+)
+    requires { ⌜ NeedFits written t ⌝ }
+    requires { ⌜ lost < noBound ⌝ }
+    requires { ⌜ Standing n (now periods) (now rows) (now marks) ⌝ }
+    ensures { λ _. ⌜ Enters n budget t written lost (now (periods .entry)) (now (rows .entry)) (now (marks .entry)) (now (rows .exit)) (now (marks .exit)) ⌝ }
+{
+    let need = walk::need_of(written, t);
+    if budget.0 < need.0 {
+        return;
+    }
+    if marks[BOUND] <= lost {
+        return;
+    }
+    let count = marks[COUNT] as usize;
+    if covers(rows, count, need, lost) {
+        return;
+    }
+    let i = losing_less(rows, count, lost);
+    let j = needing_less(rows, i, count, need);
+    put_plan(n, need, lost, periods, i, j, rows, marks);
+}
 
 // A plan becomes the row at place i, where the rows from there to place j leave. Of too many rows the last one leaves, and
 // its loss becomes the bound.
@@ -60,6 +95,24 @@ fn put_plan(
     marks[BOUND] = rows[LAST_LOSS];
     open_gap(rows, i, MOST - 1);
     store_row(need, loss, periods, i, rows);
+}
+
+// Whether some row has at most this need and at most this loss: the last that loses no more needs least of those.
+fn covers(rows: &[u64; 768], count: usize, need: PagesPerHour, loss: u64) -> bool
+    requires { ⌜ count ≤ 256 ⌝ }
+    requires { ⌜ loss < noBound ⌝ }
+    requires { ⌜ Rises count (now rows) ⌝ }
+    ensures { λ r. ⌜ Covers (now (rows .entry)) count (need .0) loss r ⌝ }
+{
+    let k = losing_less(rows, count, loss + 1);
+    if k == 0 {
+        return false;
+    }
+    let least = rows[3 * (k - 1)] / NEED;
+    if (need.0 as u64) < least {
+        return false;
+    }
+    true
 }
 
 // How many rows lose less than `loss`, where rows rise in loss.
