@@ -4,7 +4,7 @@ use mathlib.Core.Path.{_≡_, sym, _∙_, ap, subst}
 use mathlib.Core.List.{List, [], _∷_}
 use Prim.Native.Nat.{ℕ, zero, suc, _^_, _≤_, _<_, zero-le}
 use native.Mathlib.Omega.{arith}
-use native.Mathlib.Nat.{le-refl, le-trans}
+use native.Mathlib.Nat.{le-trans}
 use lib.ListN.{getD}
 use Rattle.model.specs.declared.Seconds.{Seconds}
 use Rattle.model.specs.declared.PagesPerHour.{PagesPerHour}
@@ -15,13 +15,12 @@ use Rattle.choose.specs.Choice.{refused, Outcome}
 use Rattle.walk.specs.Walk.{start, walk, walkDown}
 use Rattle.choose.specs.Found.{nothing, found, pick, none, least, lessNeed, settle}
 use Rattle.walk.specs.Arrays.{Held}
-use Rattle.walk.specs.Steps.{Ready, periodsIn}
+use Rattle.walk.specs.Steps.{periodsIn}
 use Rattle.choose.specs.Steps.{noPlan, noNeed, foundIn, leastIn, Lessens, Walks, Small, planIn}
 use Rattle.walk.proofs.Falling.{down-lists}
 use Rattle.choose.proofs.Fold.{BestFound, BestOrNone, walk-best}
 use Rattle.choose.proofs.LeastNeed.{LeastOrNone, walk-least}
 use Rattle.choose.proofs.Settled.{settled}
-use Rattle.walk.proofs.Bounds.{start-bounded}
 use Rattle.walk.proofs.Held.{held-valid}
 use Rattle.choose.proofs.Lessening.{some-least, no-least}
 use Rattle.choose.proofs.Stored.{plan-found, no-plan-found}
@@ -36,13 +35,9 @@ permitted-to before (j ∷ js) (suc n) (x ∷ xs) v h zero less = le-trans (h .0
 permitted-to before (j ∷ js) (suc n) (x ∷ xs) v h (suc k) less = permitted-to (seconds x) js n xs (v .1) (h .1) k (omega arith)
 
 module _ {spans runs rates weights : List ℕ} {n : ℕ} {js : List Job} (held : Held spans runs rates weights 0 n js) where
-  -- where both walks begin
-  pub ready-start : Ready spans runs rates weights 0 n (seconds 1) 0 0
-  ready-start = record { js = js; held = held; from = le-refl 1; to = omega arith; bounded = start-bounded }
-
   module _ {b : PagesPerHour} {ps ps′ best best′ : List ℕ} (w : Walks spans runs rates weights 0 n b (seconds 1) 0 0 ps ps′ best best′) (begun : getD best 9 0 ≡ noPlan) where
     best-or-none : BestOrNone js b (foundIn n best′)
-    best-or-none = subst (BestOrNone js b) (sym (w .is js held ∙ ap (walk (pick (b .0)) js start) (no-plan-found n best begun))) (walk-best js b (held-valid js held))
+    best-or-none = subst (BestOrNone js b) (sym (w .walked .is js held ∙ ap (walk (pick (b .0)) js start) (no-plan-found n best begun))) (walk-best js b (held-valid js held))
 
     best-found : (getD best′ 9 0 ≡ noPlan → ⊥) → BestFound js b (getD best′ 8 0) (getD best′ 9 0) (periodsIn n best′)
     best-found some = subst (BestOrNone js b) (plan-found n best′ some) best-or-none

@@ -6,5 +6,4 @@ pub mod Settled
 pub mod Lessening
 pub mod Stored
 pub mod Winning
-pub mod Climbing
 pub mod Answered

@@ -15,12 +15,9 @@ use Rattle.model.specs.Model.{seconds, pagesPerHour}
 use Rattle.choose.specs.Choice.{padded}
 use Rattle.choose.specs.Found.{Found, nothing, found, pick}
 use Rattle.walk.specs.Steps.{needAt, periodsIn}
+use Rattle.walk.proofs.Climbing.{periods-snoc}
 use Rattle.choose.specs.Steps.{noPlan, foundIn, Sizes, Keeps, Offers}
 use Rattle.choose.proofs.Updates.{pick-over, pick-first, pick-less-loss, pick-less-need, pick-more-loss, pick-no-less}
-
-pub periods-snoc : (xs : List ℕ) (t : ℕ) → map seconds (xs ++ (t ∷ [])) ≡ map seconds xs ++ (seconds t ∷ [])
-periods-snoc [] t = refl
-periods-snoc (x ∷ xs) t = ap (λ (l : List Seconds). seconds x ∷ l) (periods-snoc xs t)
 
 pub periods-length : (k : ℕ) (xs : List ℕ) → k ≤ length xs → length (periodsIn k xs) ≡ k
 periods-length zero xs h = refl

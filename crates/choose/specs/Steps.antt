@@ -11,9 +11,9 @@ use Rattle.model.specs.declared.PagesPerHour.{PagesPerHour}
 use Rattle.model.specs.declared.Job.{Job}
 use Rattle.model.specs.declared.Verdict.the-variants.{Sound}
 use Rattle.model.specs.Model.{pagesPerHour}
-use Rattle.walk.specs.Walk.{node, lossFloor, walk, walkDown}
+use Rattle.walk.specs.Walk.{node, walkDown}
 use Rattle.walk.specs.Arrays.{Held}
-use Rattle.walk.specs.Steps.{Ready, needAt, periodsIn}
+use Rattle.walk.specs.Steps.{Ready, needAt, periodsIn, ChangesNothing, Walked}
 use Rattle.choose.specs.declared.Choice.{Choice}
 use Rattle.choose.specs.Choice.{padded}
 use Rattle.choose.specs.Found.{Found, nothing, found, pick, Least, none, least, lessNeed}
@@ -68,15 +68,12 @@ pub record Offers (n : ℕ) (b : PagesPerHour) (t : Seconds) (written lost : ℕ
 
 -- The walk for the best plan, from a node of i jobs on, would leave what is found; `floor` is the node's loss floor.
 abbrev pub WinsNothing : List ℕ → List ℕ → ℕ → ℕ → PagesPerHour → Seconds → ℕ → ℕ → List ℕ → Type 0
-WinsNothing spans rates i n b t written floor best =
-    (runs weights : List ℕ) (js : List Job) (lost : ℕ) (ts : List Seconds) → Held spans runs rates weights i n js → floor ≡ lost + lossFloor js (t .0) →
-    walk (pick (b .0)) js (node t written lost ts) (foundIn n best) ≡ foundIn n best
+WinsNothing spans rates i n b t written floor best = ChangesNothing (pick (b .0)) spans rates i n t written floor (foundIn n best)
 
 -- What that walk leaves: the periods before place i, and in best what it makes of what was found.
 pub record Walks (spans runs rates weights : List ℕ) (i n : ℕ) (b : PagesPerHour) (t : Seconds) (written lost : ℕ) (ps ps′ best best′ : List ℕ) : Type 0 where
   pub sizes : Sizes n ps′ best′
-  pub before : take i ps′ ≡ take i ps
-  pub is : (js : List Job) → Held spans runs rates weights i n js → foundIn n best′ ≡ walk (pick (b .0)) js (node t written lost (periodsIn i ps)) (foundIn n best)
+  pub walked : Walked (pick (b .0)) spans runs rates weights i n t written lost ps ps′ (foundIn n best) (foundIn n best′)
 
 -- Every number of a best plan but its loss fits 32 bits.
 pub record Small (n : ℕ) (best : List ℕ) : Type 0 where

@@ -4,7 +4,7 @@ use mathlib.Core.Path.{_≡_, ap}
 use mathlib.Core.List.{List, []}
 use Prim.Native.Nat.{ℕ, _+_, _*_, _/_, _%_, _≤_, _<_, zero-le}
 use native.Mathlib.Omega.{arith}
-use native.Mathlib.Nat.{le-trans, mul-le-mul-right}
+use native.Mathlib.Nat.{le-refl, le-trans, mul-le-mul-right}
 use lib.ListN.{getD}
 use Rattle.model.specs.declared.Seconds.{Seconds}
 use Rattle.model.specs.declared.Job.{Job}
@@ -12,10 +12,10 @@ use Rattle.model.proofs.Bounds.{mostLoss}
 use Rattle.model.specs.Model.{seconds, cost, Allowed, roundUp}
 use Rattle.walk.specs.Walk.{needFloor, Node, node, walkBy}
 use Rattle.walk.specs.Arrays.{HoldsJob, Held}
-use Rattle.walk.specs.Steps.{needAt, NeedFits, Ends, Unreached, Ready}
-use Rattle.walk.proofs.Chains.{ListsAllowed}
-use Rattle.walk.proofs.Walk.{walk-out-of-reach}
-use Rattle.walk.proofs.Bounds.{need-bound, least-needs-bound, next-bounded}
+use Rattle.walk.specs.Steps.{needAt, NeedFits, Ends, Unreached, Ready, ReadyForCut, ChangesNothing}
+use Rattle.walk.proofs.Chains.{ListsAllowed, multiples-lists}
+use Rattle.walk.proofs.Walk.{Keeps, walk-cut, walk-out-of-reach}
+use Rattle.walk.proofs.Bounds.{start-bounded, need-bound, least-needs-bound, next-bounded}
 use Rattle.walk.proofs.Held.{held-open, held-at, held-valid}
 
 module _ {spans runs rates weights : List ℕ} {i n : ℕ} where
@@ -113,3 +113,17 @@ module _ {spans runs rates weights : List ℕ} {i n : ℕ} where
           let q : 65534 * (i + 1) * u ≤ 524272 * u = mul-le-mul-right u k in
           let to = s .to in
           omega arith
+
+-- where a walk begins
+pub ready-start : {spans runs rates weights : List ℕ} {n : ℕ} {js : List Job} → Held spans runs rates weights 0 n js → Ready spans runs rates weights 0 n (seconds 1) 0 0
+ready-start {js = js} held = record { js = js; held = held; from = le-refl 1; to = omega arith; bounded = start-bounded }
+
+-- the cuts of a rising walk: what is had stands against the floors, or a later interval holds no multiple
+module _ {A : Type 0} (f : ℕ → ℕ → List Seconds → A → A) (acc : A) {spans rates : List ℕ} {i n : ℕ} {t : Seconds} {written : ℕ} (r : ReadyForCut spans rates i n t written) (floor : ℕ) where
+  pub floors-cut : (k l : ℕ) → k ≤ needAt written t + getD rates (8 + i) 0 → l ≤ floor → Keeps f acc k l → ChangesNothing f spans rates i n t written floor acc
+  floors-cut k l k≤ l≤ keeps runs weights js lost ts h e =
+      let is = need-floor-is js t written h in
+      walk-cut multiples-lists f acc js (node t written lost ts) (held-valid js h) (r .ready .from) k l (omega arith) (omega arith) keeps
+
+  pub reach-cut : Unreached spans i n t → ChangesNothing f spans rates i n t written floor acc
+  reach-cut u runs weights js lost ts h e = unreached multiples-lists f acc js (node t written lost ts) (r .ready .from) h u

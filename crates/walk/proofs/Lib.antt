@@ -10,3 +10,4 @@ pub mod Held
 pub mod FloorTurn
 pub mod Cuts
 pub mod Filled
+pub mod Climbing

@@ -7,7 +7,7 @@ use lib.ListN.{getD, take}
 use Rattle.model.specs.declared.Seconds.{Seconds}
 use Rattle.model.specs.declared.Job.{Job}
 use Rattle.model.specs.Model.{seconds, roundUp}
-use Rattle.walk.specs.Walk.{node, Bounded, lossFloor}
+use Rattle.walk.specs.Walk.{node, walk, Bounded, lossFloor}
 use Rattle.walk.specs.Arrays.{Held}
 
 -- A job's loss at a period, from its numbers: stiffness, rate at the shortest period, pages of a run.
@@ -70,3 +70,15 @@ pub record ReadyForCut (spans rates : List ℕ) (i n : ℕ) (t : Seconds) (writt
 -- The first i periods.
 abbrev pub periodsIn : ℕ → List ℕ → List Seconds
 periodsIn i ps = map seconds (take i ps)
+
+module _ {A : Type 0} (f : ℕ → ℕ → List Seconds → A → A) where
+  -- The walk from a node of i jobs on would leave what is had; `floor` is the node's loss floor.
+  abbrev pub ChangesNothing : List ℕ → List ℕ → ℕ → ℕ → Seconds → ℕ → ℕ → A → Type 0
+  ChangesNothing spans rates i n t written floor acc =
+      (runs weights : List ℕ) (js : List Job) (lost : ℕ) (ts : List Seconds) → Held spans runs rates weights i n js → floor ≡ lost + lossFloor js (t .0) →
+      walk f js (node t written lost ts) acc ≡ acc
+
+  -- What that walk leaves: the periods before place i, and what it makes of what was had.
+  pub record Walked (spans runs rates weights : List ℕ) (i n : ℕ) (t : Seconds) (written lost : ℕ) (ps ps′ : List ℕ) (acc acc′ : A) : Type 0 where
+    pub before : take i ps′ ≡ take i ps
+    pub is : (js : List Job) → Held spans runs rates weights i n js → acc′ ≡ walk f js (node t written lost (periodsIn i ps)) acc

@@ -4,8 +4,11 @@ use Prim.Native.Nat.{ℕ, _<_, _+_, _-_}
 use mathlib.Core.Path.{_∙_}
 use native.Mathlib.Nat.{div-le-self, div-mul-le-self}
 use lib.ListN.{getD, length-set}
+use Rattle.choose.specs.Found.{pick}
+use Rattle.choose.specs.Steps.{foundIn, Sizes}
 use Rattle.walk.proofs.Cuts.{ready-more, ready-shortest, ready-longest, ready-own, ready-need}
-use Rattle.choose.proofs.Climbing.{Up, Turn, up-leaf, up-starts, up-done, up-loss-fits, up-later, up-written, up-cut, up-lost, up-next, up-floor, up-left, up-skip, up-turn}
+use Rattle.choose.proofs.Winning.{more-loss-kept}
+use Rattle.walk.proofs.Climbing.{Up, Turn, up-leaf, up-starts, up-done, up-loss-fits, up-later, up-written, up-cut, up-lost, up-next, up-floor, up-left, up-skip, up-turn}
 use borrow.Author.Needs.{needs}
 use native.Mathlib.Omega.{arith}
 use borrow.Fn.Kinds.{In}
@@ -35,7 +38,7 @@ abbrev claims : ℕ → find-best-lts.Claims
 claims t = (offer-reads.Asked, offer-reads.Learnt, job-loss-reads.Asked, job-loss-reads.Learnt, loss-floor-reads.Asked, loss-floor-reads.Learnt, may-win-reads.Asked, may-win-reads.Learnt, asked t, find-best.Post)
 
 abbrev Inv-loop : find-best-lts.InvT-loop
-Inv-loop seconds pages rates stiffnesses i n budget step written lost periods₀ best₀ lo hi own t₀ periods best t = Up seconds pages rates stiffnesses i n budget step written lost periods₀ best₀ periods best t
+Inv-loop seconds pages rates stiffnesses i n budget step written lost periods₀ best₀ lo hi own t₀ periods best t = Sizes n periods best × Up (pick (budget .0)) seconds pages rates stiffnesses i n step written lost periods₀ (foundIn n best₀) periods (foundIn n best) t
 
 abbrev μ-loop : find-best-lts.MeasureT-loop
 μ-loop seconds pages rates stiffnesses i n budget step written lost periods₀ best₀ lo hi own t₀ periods best t = hi + 1 - t
@@ -47,7 +50,11 @@ offer-requires t c κs =
     (ready-need r, (omega (arith, r .bounded .lost-to, r .held .count, r .held .most), s .pre .1 .1))
 
 returns : (t : ℕ) → find-best-lts.Need-returns (claims t) (given t) find-best.Post Inv-loop μ-loop
-returns t c = up-leaf (c .before .before .before .before .pre .1 .0) (c .before .before .before .if1 .taken) (c .before .before .before .before .pre .1 .1) (c .offer .ensures)
+returns t c =
+    let s = c .before .before .before .before in
+    let z = s .pre .1 .1 in
+    let o = c .offer .ensures in
+    record { sizes = record { count = z .count; periods-size = z .periods-size; best-size = o .size }; walked = up-leaf (s .pre .1 .0) (c .before .before .before .if1 .taken) (o .is) }
 
 mul-lo : (t : ℕ) → find-best-lts.Need-mul-lo (claims t) (given t) find-best.Post Inv-loop μ-loop
 mul-lo t c = search needs
@@ -102,7 +109,7 @@ loop-holds t c =
     let s = c .before .before .before .before .before .before .before in
     let r = s .pre .1 .0 in
     let less = ready-more r (c .before .before .before .before .before .before .if1 .left) in
-    up-starts r less (s .pre .1 .1)
+    (s .pre .1 .1, up-starts r less)
 
 mul-job-loss : (t : ℕ) → find-best-lts.Need-mul-job-loss (claims t) (given t) find-best.Post Inv-loop μ-loop
 mul-job-loss t c = search needs
@@ -130,12 +137,12 @@ abbrev Known : (t : ℕ) → find-best-lts.In-loop (claims t) (given t) find-bes
 Known t c =
     let l = c .before .loop in
     let a = c .before .before .before .before .before .before .before .before .before .args in
-    Turn (a .seconds .now) (a .pages .now) (a .rates .now) (a .stiffnesses .now) (a .i) (a .n) (a .budget) (a .step) (a .written) (a .lost) (a .periods .now) (a .best .now) (l .periods) (l .best) (l .t)
+    Turn (pick (a .budget .0)) (a .seconds .now) (a .pages .now) (a .rates .now) (a .stiffnesses .now) (a .i) (a .n) (a .step) (a .written) (a .lost) (a .periods .now) (foundIn (a .n) (a .best .now)) (l .periods) (foundIn (a .n) (l .best)) (l .t)
 
 facts : (t : ℕ) (c : find-best-lts.In-loop (claims t) (given t) find-best.Post Inv-loop μ-loop) → Known t c
 facts t c =
     let r = c .before .before .before .before .before .before .before .before .before .pre .1 .0 in
-    record { ready = r; less = ready-more r (c .before .before .before .before .before .before .before .before .if1 .left); up = c .before .loop .inv; on = c .loop-test .taken }
+    record { ready = r; less = ready-more r (c .before .before .before .before .before .before .before .before .if1 .left); up = c .before .loop .inv .1; on = c .loop-test .taken }
 
 job-loss-requires : (t : ℕ) → find-best-lts.Need-job-loss-requires (claims t) (given t) find-best.Post Inv-loop μ-loop
 job-loss-requires t c κs =
@@ -166,7 +173,11 @@ element-copy-out-if2 t c = search needs
 returns-2 : (t : ℕ) → find-best-lts.Need-returns-2 (claims t) (given t) find-best.Post Inv-loop μ-loop
 returns-2 t c =
     let u = facts t (c .before .before .before .before .before .before .before) in
-    up-left u (c .before .before .before .job-loss .ensures) (c .before .before .loss-floor .ensures) (omega (arith, c .if2 .taken))
+    let l = c .before .before .before .before .before .before .before .before .loop in
+    let own = c .before .before .before .job-loss .ensures in
+    let low = c .before .before .loss-floor .ensures in
+    let small = up-floor u own low in
+    record { sizes = l .inv .0; walked = up-left u own low (more-loss-kept _ _ (l .best) (omega (arith, c .if2 .taken)) (omega arith)) }
 
 div-more : (t : ℕ) → find-best-lts.Need-div-more (claims t) (given t) find-best.Post Inv-loop μ-loop
 div-more t c = search needs
@@ -223,7 +234,7 @@ add-find-best t c =
 find-best-requires : (t : ℕ) → find-best-lts.Need-find-best-requires (claims t) (given t) find-best.Post Inv-loop μ-loop
 find-best-requires t c κs =
     let u = facts t (c .before .before .before .before .before .before .before .before .before .before .before .before .before .before) in
-    let z = u .up .sizes in
+    let z = c .before .before .before .before .before .before .before .before .before .before .before .before .before .before .before .loop .inv .0 in
     (omega (arith, u .less, c .before .before .before .before .before .before .before .before .before .before .before .before .before .before .before .before .before .before .before .before .before .before .before .pre .0), (up-next u (c .before .before .before .before .before .before .before .before .before .before .job-loss .ensures), record { count = z .count; periods-size = length-set (c .before .before .before .before .before .before .before .before .before .before .before .before .before .before .before .loop .periods) (c .before .before .before .before .before .before .before .before .before .before .before .before .before .before .before .before .before .before .before .before .before .before .before .args .i) (c .before .before .before .before .before .before .before .before .before .before .before .before .before .before .before .loop .t) ∙ z .periods-size; best-size = z .best-size }))
 
 loop-less : (t : ℕ) → find-best-lts.Need-loop-less (claims t) (given t) find-best.Post Inv-loop μ-loop
@@ -234,7 +245,8 @@ loop-less t c =
 loop-again : (t : ℕ) → find-best-lts.Need-loop-again (claims t) (given t) find-best.Post Inv-loop μ-loop
 loop-again t c =
     let u = facts t (c .before .before .before .before .before .before .before .before .before .before .before .before .before .before .before) in
-    up-turn u (c .before .before .before .before .before .before .before .before .before .before .before .job-loss .ensures) (c .before .before .before .before .before .before .before .before .before .before .loss-floor .ensures) (c .find-best .ensures)
+    let w = c .find-best .ensures in
+    (w .sizes, up-turn u (c .before .before .before .before .before .before .before .before .before .before .before .job-loss .ensures) (c .before .before .before .before .before .before .before .before .before .before .loss-floor .ensures) (c .before .before .before .before .before .before .before .before .before .before .before .before .before .before .before .before .loop .inv .0 .periods-size) (w .walked))
 
 loop-less-2 : (t : ℕ) → find-best-lts.Need-loop-less-2 (claims t) (given t) find-best.Post Inv-loop μ-loop
 loop-less-2 t c =
@@ -244,12 +256,12 @@ loop-less-2 t c =
 loop-again-2 : (t : ℕ) → find-best-lts.Need-loop-again-2 (claims t) (given t) find-best.Post Inv-loop μ-loop
 loop-again-2 t c =
     let u = facts t (c .before .before .before .before .before .before .before .before .before .before .before .before) in
-    up-skip u (c .before .before .before .before .before .before .before .before .job-loss .ensures) (c .before .before .before .before .before .before .before .loss-floor .ensures) (c .before .may-win .ensures (c .if3 .left))
+    (c .before .before .before .before .before .before .before .before .before .before .before .before .before .loop .inv .0, up-skip u (c .before .before .before .before .before .before .before .before .job-loss .ensures) (c .before .before .before .before .before .before .before .loss-floor .ensures) (c .before .may-win .ensures (c .if3 .left)))
 
 returns-3 : (t : ℕ) → find-best-lts.Need-returns-3 (claims t) (given t) find-best.Post Inv-loop μ-loop
 returns-3 t c =
     let s = c .before .before .before .before .before .before .before .before .before in
-    up-done (s .pre .1 .0) (ready-more (s .pre .1 .0) (c .before .before .before .before .before .before .before .before .if1 .left)) (c .before .loop .inv) (c .loop-test .left)
+    record { sizes = c .before .loop .inv .0; walked = up-done (s .pre .1 .0) (ready-more (s .pre .1 .0) (c .before .before .before .before .before .before .before .before .if1 .left)) (c .before .loop .inv .1) (c .loop-test .left) }
 
 pub +find-best-spec : {M : Type 1} → statement M
 +find-best-spec = close measure λ t. find-best-lts.spec (claims t)

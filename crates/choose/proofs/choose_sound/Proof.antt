@@ -3,7 +3,8 @@
 use borrow.Author.Needs.{needs}
 use mathlib.Core.Path.{refl}
 use Rattle.walk.proofs.Filled.{all-held}
-use Rattle.choose.proofs.Answered.{ready-start, plan-small, plan-right, none-right, least-right}
+use Rattle.walk.proofs.Cuts.{ready-start}
+use Rattle.choose.proofs.Answered.{plan-small, plan-right, none-right, least-right}
 use native.Mathlib.Omega.{arith}
 use Rattle.choose.proofs.choose_sound.Statement.{statement}
 use Rattle.choose.proofs.choose_sound.Tie as tie

@@ -1,0 +1,191 @@
+-- The loop of a rising walk, turn by turn, whatever the walk keeps: from the present multiple up, begun with what is had, it ends as the whole walk does.
+-- Assumes nothing.
+use mathlib.Core.Path.{_≡_, refl, sym, _∙_, ap, subst}
+use mathlib.Core.List.{List, [], _∷_, _++_, map}
+use Prim.Native.Nat.{ℕ, zero, suc, _+_, _*_, _-_, _/_, _%_, _≤_, _<_, zero-le}
+use native.Mathlib.Omega.{arith}
+use native.Mathlib.Numerals.{add-one}
+use native.Mathlib.Nat.{le-refl, mul-mod-left, add-mod-right}
+use lib.ListN.{length, getD, take, set}
+use lib.Seq.{take-suc-set, take-set-le}
+use Rattle.model.specs.declared.Seconds.{Seconds}
+use Rattle.model.specs.declared.Job.{Job}
+use Rattle.model.proofs.Bounds.{mostLoss, job-loss-bound}
+use Rattle.model.specs.Model.{seconds, jobLoss}
+use Rattle.walk.specs.Walk.{node, next, walkBy, walk, walkFrom}
+use Rattle.walk.specs.Arrays.{HoldsJob, Held}
+use Rattle.walk.specs.Steps.{lossAt, LossFits, needAt, Later, Ready, ReadyForCut, IsLossFloor, periodsIn, ChangesNothing, Walked}
+use Rattle.model.proofs.Rounding.{round-up-above}
+use Rattle.walk.proofs.Bounds.{loss-floor-bound}
+use Rattle.walk.proofs.Walk.{Keeps}
+use Rattle.walk.proofs.Loops.{loop-opens, loop-takes, loop-ends, loop-left}
+use Rattle.walk.proofs.Held.{held-open, held-none, held-next, held-valid, job-loss-fits, job-loss-is}
+use Rattle.walk.proofs.Cuts.{next-ready, next-written}
+
+pub periods-snoc : (xs : List ℕ) (t : ℕ) → map seconds (xs ++ (t ∷ [])) ≡ map seconds xs ++ (seconds t ∷ [])
+periods-snoc [] t = refl
+periods-snoc (x ∷ xs) t = ap (λ (l : List Seconds). seconds x ∷ l) (periods-snoc xs t)
+
+-- the periods with one more
+periods-more : (i t : ℕ) (ps : List ℕ) → i < length ps → periodsIn (i + 1) (set ps i t) ≡ periodsIn i ps ++ (seconds t ∷ [])
+periods-more i t ps h = ap (map seconds) (ap (λ (k : ℕ). take k (set ps i t)) (add-one i) ∙ take-suc-set ps i t h) ∙ periods-snoc (take i ps) t
+
+-- lists alike up to one place more are alike up to this one
+shorter : (i : ℕ) (xs ys : List ℕ) → take (suc i) xs ≡ take (suc i) ys → take i xs ≡ take i ys
+shorter i xs ys e = sym (twice i xs) ∙ ap (take i) e ∙ twice i ys
+  where
+    twice : (k : ℕ) (zs : List ℕ) → take k (take (suc k) zs) ≡ take k zs
+    twice zero zs = refl
+    twice (suc k) [] = refl
+    twice (suc k) (z ∷ zs) = ap (λ (l : List ℕ). z ∷ l) (twice k zs)
+
+multiple-more : (t p : ℕ) → t % p ≡ 0 → (t + p) % p ≡ 0
+multiple-more t p e = add-mod-right t p ∙ e
+
+-- Before each turn: t is the multiple whose turn it is, and the walk from it up, begun with what is had, ends as the whole walk does.
+pub record Up {A : Type 0} (f : ℕ → ℕ → List Seconds → A → A) (spans runs rates weights : List ℕ) (i n : ℕ) (step : Seconds) (written lost : ℕ) (ps₀ : List ℕ) (acc₀ : A) (ps : List ℕ) (acc : A) (t : ℕ) : Type 0 where
+  pub before : take i ps ≡ take i ps₀
+  pub multiple : t % step .0 ≡ 0
+  pub above : getD spans i 0 ≤ t
+  pub is : (j : Job) (js : List Job) → Held spans runs rates weights i n (j ∷ js) →
+      walkFrom f j js (node step written lost (periodsIn i ps₀)) t acc ≡ walk f (j ∷ js) (node step written lost (periodsIn i ps₀)) acc₀
+
+module _ {spans runs rates weights : List ℕ} {i n : ℕ} {step : Seconds} {written lost : ℕ} (r : Ready spans runs rates weights i n step written lost) {A : Type 0} {f : ℕ → ℕ → List Seconds → A → A} where
+  -- the last job has its period: one plan
+  pub up-leaf : {ps : List ℕ} {acc acc′ : A} → i ≡ n → acc′ ≡ f (needAt written step) lost (periodsIn n ps) acc → Walked f spans runs rates weights i n step written lost ps ps acc acc′
+  unfolding needAt walkBy
+  up-leaf {ps} {acc} {acc′} e o = record { before = refl; is = one }
+    where
+      one : (js : List Job) → Held spans runs rates weights i n js → acc′ ≡ walk f js (node step written lost (periodsIn i ps)) acc
+      one js h =
+          let none : js ≡ [] = held-none js (subst (λ (x : ℕ). Held spans runs rates weights x n js) e h) in
+          rw (none, e) o
+
+  pub up-starts : (less : i < n) {ps : List ℕ} {acc : A} → Up f spans runs rates weights i n step written lost ps acc ps acc ((getD spans i 0 + (step .0 - 1)) / step .0 * step .0)
+  up-starts less {ps} {acc} = record { before = refl; multiple = mul-mod-left _ _; above = round-up-above (getD spans i 0) (r .from); is = opens }
+    where
+      opens : (j : Job) (js : List Job) → Held spans runs rates weights i n (j ∷ js) →
+          walkFrom f j js (node step written lost (periodsIn i ps)) ((getD spans i 0 + (step .0 - 1)) / step .0 * step .0) acc ≡ walk f (j ∷ js) (node step written lost (periodsIn i ps)) acc
+      opens j js h = rw (h .jobs .0 .shortest) (sym (loop-opens f j js (node step written lost (periodsIn i ps)) acc))
+
+  module _ (less : i < n) {ps₀ ps : List ℕ} {acc₀ acc : A} {t : ℕ} (u : Up f spans runs rates weights i n step written lost ps₀ acc₀ ps acc t) where
+    pub up-done : getD spans (8 + i) 0 < t → Walked f spans runs rates weights i n step written lost ps₀ ps acc₀ acc
+    up-done past = record { before = u .before; is = done }
+      where
+        done : (js : List Job) → Held spans runs rates weights i n js → acc ≡ walk f js (node step written lost (periodsIn i ps₀)) acc₀
+        done js h =
+            let o = held-open js less h in
+            let p = node step written lost (periodsIn i ps₀) in
+            let k : Held spans runs rates weights i n (o .job ∷ o .rest) = subst (Held spans runs rates weights i n) (o .is) h in
+            rw (o .is) (sym (loop-ends f (o .job) (o .rest) p t acc (r .from) (rw (o .holds .longest) at past)) ∙ u .is (o .job) (o .rest) k)
+
+-- A turn of the loop: what stands before it, and a multiple within the interval.
+pub record Turn {A : Type 0} (f : ℕ → ℕ → List Seconds → A → A) (spans runs rates weights : List ℕ) (i n : ℕ) (step : Seconds) (written lost : ℕ) (ps₀ : List ℕ) (acc₀ : A) (ps : List ℕ) (acc : A) (t : ℕ) : Type 0 where
+  pub ready : Ready spans runs rates weights i n step written lost
+  pub less : i < n
+  pub up : Up f spans runs rates weights i n step written lost ps₀ acc₀ ps acc t
+  pub on : t ≤ getD spans (8 + i) 0
+
+module _ {A : Type 0} {f : ℕ → ℕ → List Seconds → A → A} {spans runs rates weights : List ℕ} {i n : ℕ} {step : Seconds} {written lost : ℕ} {ps₀ ps : List ℕ} {acc₀ acc : A} {t : ℕ} (u : Turn f spans runs rates weights i n step written lost ps₀ acc₀ ps acc t) where
+  -- the loss so far with this job's
+  pub up-loss-fits : LossFits (getD weights i 0) (getD rates i 0) (getD runs (8 + i) 0) t
+  up-loss-fits = let o = held-open (u .ready .js) (u .less) (u .ready .held) in job-loss-fits (o .holds) (seconds t) (rw (o .holds .shortest) at (u .up .above))
+
+  loss-here : (j : Job) {js : List Job} → HoldsJob spans runs rates weights i j js → {x : ℕ} → x ≡ lossAt (getD weights i 0) (getD rates i 0) (getD runs (8 + i) 0) t → x ≡ jobLoss j (seconds t)
+  loss-here j h e = e ∙ job-loss-is h (seconds t) (rw (h .shortest) at (u .up .above))
+
+  pub up-later : Later spans runs rates weights (i + 1) n (seconds t)
+  up-later =
+      let o = held-open (u .ready .js) (u .less) (u .ready .held) in
+      let v = o .holds .valid in
+      let s = o .holds .shortest in
+      let a = u .up .above in
+      record { js = o .rest; held = o .later; from = omega arith }
+
+  pub up-written : written * (t / step .0) + getD runs i 0 ≤ 1887379200
+  up-written = next-written (u .ready) (u .less) t (u .up .multiple) (u .up .above) (u .on)
+
+  pub up-cut : ReadyForCut spans rates (i + 1) n (seconds t) (written * (t / step .0) + getD runs i 0)
+  up-cut = record { runs = runs; weights = weights; ready = next-ready (u .ready) (u .less) t (u .up .multiple) (u .up .above) (u .on) zero-le }
+
+  module _ {x : ℕ} (own : x ≡ lossAt (getD weights i 0) (getD rates i 0) (getD runs (8 + i) 0) t) where
+    pub up-lost : lost + x ≤ mostLoss * (i + 1)
+    up-lost =
+        let o = held-open (u .ready .js) (u .less) (u .ready .held) in
+        let e = loss-here (o .job) (o .holds) own in
+        let k = job-loss-bound (o .job) (seconds t) (o .holds .valid) in
+        let l : lost ≤ mostLoss * i = u .ready .bounded .lost-to in
+        omega arith
+
+    pub up-next : Ready spans runs rates weights (i + 1) n (seconds t) (written * (t / step .0) + getD runs i 0) (lost + x)
+    up-next = next-ready (u .ready) (u .less) t (u .up .multiple) (u .up .above) (u .on) up-lost
+
+    module _ {low : ℕ} (floor : IsLossFloor spans runs rates weights (i + 1) n (seconds t) low) where
+      pub up-floor : lost + x + low ≤ mostLoss * 8
+      up-floor =
+          let l = up-later in
+          let k = loss-floor-bound (l .js) t (held-valid (l .js) (l .held)) in
+          let e = floor (l .js) (l .held) in
+          let a = up-lost in
+          let c = l .held .count in
+          let m = l .held .most in
+          omega arith
+
+      -- what is had stands against the loss floor: nothing from here on changes it
+      pub up-left : Keeps f acc 0 (lost + x + low) → Walked f spans runs rates weights i n step written lost ps₀ ps acc₀ acc
+      up-left keeps = record { before = u .up .before; is = left }
+        where
+          left : (js : List Job) → Held spans runs rates weights i n js → acc ≡ walk f js (node step written lost (periodsIn i ps₀)) acc₀
+          left js h =
+              let o = held-open js (u .less) h in
+              let p = node step written lost (periodsIn i ps₀) in
+              let k : Held spans runs rates weights i n (o .job ∷ o .rest) = subst (Held spans runs rates weights i n) (o .is) h in
+              let e = loss-here (o .job) (o .holds) own in
+              let g = floor (o .rest) (o .later) in
+              let pos = up-later .from in
+              let stays : walkFrom f (o .job) (o .rest) p t acc ≡ acc = loop-left f (o .job) (o .rest) p t (lost + x + low) acc (held-valid (o .rest) (o .later)) pos (omega arith) keeps in
+              rw (o .is) (sym stays ∙ u .up .is (o .job) (o .rest) k)
+
+      -- one turn, where the walk below this multiple takes what is had to acc′
+      turn : {ps′ : List ℕ} {acc′ : A} → take i ps′ ≡ take i ps₀ →
+          ((j : Job) (js : List Job) → Held spans runs rates weights i n (j ∷ js) → walk f js (next j (node step written lost (periodsIn i ps₀)) (seconds t)) acc ≡ acc′) →
+          Up f spans runs rates weights i n step written lost ps₀ acc₀ ps′ acc′ (t + step .0)
+      turn {ps′} {acc′} same below =
+          let a = u .up .above in
+          record { before = same; multiple = multiple-more t (step .0) (u .up .multiple); above = omega arith; is = turned }
+        where
+          turned : (j : Job) (js : List Job) → Held spans runs rates weights i n (j ∷ js) →
+              walkFrom f j js (node step written lost (periodsIn i ps₀)) (t + step .0) acc′ ≡ walk f (j ∷ js) (node step written lost (periodsIn i ps₀)) acc₀
+          turned j js h =
+              let p = node step written lost (periodsIn i ps₀) in
+              ap (walkFrom f j js p (t + step .0)) (sym (below j js h))
+              ∙ sym (loop-takes f j js p t acc (u .ready .from) (rw (h .jobs .0 .longest) at (u .on)))
+              ∙ u .up .is j js h
+
+      pub up-skip : ChangesNothing f spans rates (i + 1) n (seconds t) (written * (t / step .0) + getD runs i 0) (lost + x + low) acc →
+          Up f spans runs rates weights i n step written lost ps₀ acc₀ ps acc (t + step .0)
+      up-skip nothing = turn (u .up .before) below
+        where
+          below : (j : Job) (js : List Job) → Held spans runs rates weights i n (j ∷ js) → walk f js (next j (node step written lost (periodsIn i ps₀)) (seconds t)) acc ≡ acc
+          below j js h =
+              let e = loss-here j (h .jobs .0) own in
+              let g = floor js (held-next j js h) in
+              let stays = nothing runs weights js (lost + jobLoss j (seconds t)) (periodsIn i ps₀ ++ (seconds t ∷ [])) (held-next j js h) (omega arith) in
+              rw (h .jobs .0 .for-need) at stays
+
+      pub up-turn : {ps′ : List ℕ} {acc′ : A} → length ps ≡ 8 → Walked f spans runs rates weights (i + 1) n (seconds t) (written * (t / step .0) + getD runs i 0) (lost + x) (set ps i t) ps′ acc acc′ →
+          Up f spans runs rates weights i n step written lost ps₀ acc₀ ps′ acc′ (t + step .0)
+      up-turn {ps′} {acc′} eight w = turn same below
+        where
+          place : i < length ps
+          place = let m = u .ready .held .most in let l = u .less in omega arith
+
+          same : take i ps′ ≡ take i ps₀
+          same = shorter i ps′ (set ps i t) (rw (add-one i) at (w .before)) ∙ take-set-le i ps i t (le-refl i) ∙ u .up .before
+
+          below : (j : Job) (js : List Job) → Held spans runs rates weights i n (j ∷ js) → walk f js (next j (node step written lost (periodsIn i ps₀)) (seconds t)) acc ≡ acc′
+          below j js h =
+              let e = loss-here j (h .jobs .0) own in
+              let ts : periodsIn (i + 1) (set ps i t) ≡ periodsIn i ps₀ ++ (seconds t ∷ []) = periods-more i t ps place ∙ ap (λ (l : List ℕ). map seconds l ++ (seconds t ∷ [])) (u .up .before) in
+              let after = w .is js (held-next j js h) in
+              sym (rw (h .jobs .0 .for-need, e, ts) at after)
