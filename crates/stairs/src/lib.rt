@@ -1,20 +1,21 @@
 // The next answers of a table in one walk: a staircase of plans in rising loss and falling need.
 //
-// specs/Stairs.antt says what the walk keeps, specs/Rows.antt how that stands in an array. Contracts of inner functions
-// cite both, and no public one. Nothing is assumed.
+// specs/Stairs.antt says what the walk keeps, specs/Rows.antt how that stands in an array. The contracts cite both; they
+// serve other crates of the planner, and their callers meet what they require. Nothing is assumed.
 use model::PagesPerHour;
 use model::Seconds;
 ghost use mathlib.Core.Path.{_≡_};
+ghost use mathlib.Core.Bool.{false};
 ghost use Prim.Native.Nat.{_≤_, _<_};
 ghost use lib.ListN.{length, getD};
-ghost use Rattle.walk.specs.Steps.{NeedFits};
+ghost use Rattle.walk.specs.Steps.{NeedFits, Ready, ReadyForCut};
 ghost use Rattle.stairs.specs.Stairs.{noBound};
-ghost use Rattle.stairs.specs.Rows.{highWord, lowWord, Periods, Fields, Rises, LosesLess, Covers, NeedsLess, Moved, Stored, Place, Standing, Puts, Enters};
+ghost use Rattle.stairs.specs.Rows.{highWord, lowWord, Periods, Fields, Rises, LosesLess, Covers, NeedsLess, Moved, Stored, Place, Standing, Puts, Enters, EntersNothing, Climbs, Begins, NextAnswers};
 
 // Where a row has its loss, behind its two words.
 const LOSS: usize = 2;
 
-// Above a need stand 32 bits of periods.
+// A need stands above 32 bits of periods.
 const NEED: u64 = 0x1_0000_0000;
 
 // The greatest number of rows, and where the last of them has its loss.
@@ -26,6 +27,152 @@ const LAST_LOSS: usize = 767;
 const COUNT: usize = 0;
 
 const BOUND: usize = 1;
+
+// More than any loss.
+const NO_BOUND: u64 = 0xffff_ffff_ffff_ffff;
+
+// The next answers under a budget go to the front of `rows`, at most 256 of them in rising loss and falling need; answers
+// how many.
+pub fn next_answers(
+    seconds: &[u32; 16],
+    pages: &[u32; 16],
+    rates: &[u32; 17],
+    stiffnesses: &[u32; 8],
+    n: usize,
+    budget: PagesPerHour,
+    rows: &mut [u64; 768],
+) -> usize
+    requires { ⌜ Begins (now seconds) (now pages) (now rates) (now stiffnesses) n ⌝ }
+    requires { ⌜ length (now rows) ≡ 768 ⌝ }
+    ensures { λ r. ⌜ NextAnswers (now (seconds .entry)) (now (pages .entry)) (now (rates .entry)) (now (stiffnesses .entry)) n budget r (now (rows .exit)) ⌝ }
+{
+    let mut periods = [0u32; 8];
+    let mut marks = [0u64; 2];
+    marks[BOUND] = NO_BOUND;
+    find_stairs(
+        seconds,
+        pages,
+        rates,
+        stiffnesses,
+        0,
+        n,
+        budget,
+        Seconds(1),
+        0,
+        0,
+        &mut periods,
+        rows,
+        &mut marks,
+    );
+    marks[COUNT] as usize
+}
+
+// Tries all permitted plans that begin with the first i of `periods`, multiples in rising order, and lets those enter that
+// may. `step` is the last of these periods; in that time they have `written` so many pages, and they have `lost` so much.
+fn find_stairs(
+    seconds: &[u32; 16],
+    pages: &[u32; 16],
+    rates: &[u32; 17],
+    stiffnesses: &[u32; 8],
+    i: usize,
+    n: usize,
+    budget: PagesPerHour,
+    step: Seconds,
+    written: u64,
+    lost: u64,
+    periods: &mut [u32; 8],
+    rows: &mut [u64; 768],
+    marks: &mut [u64; 2],
+)
+    requires { ⌜ Ready (now seconds) (now pages) (now rates) (now stiffnesses) i n step written lost ⌝ }
+    requires { ⌜ Standing n (now periods) (now rows) (now marks) ⌝ }
+    ensures { λ _. ⌜ Climbs (now (seconds .entry)) (now (pages .entry)) (now (rates .entry)) (now (stiffnesses .entry)) i n budget step written lost (now (periods .entry)) (now (periods .exit)) (now (rows .entry)) (now (rows .exit)) (now (marks .entry)) (now (marks .exit)) ⌝ }
+{
+    if i == n {
+        enter_plan(n, budget, step, written, lost, periods, rows, marks);
+        return;
+    }
+    let lo = seconds[i];
+    let hi = seconds[8 + i];
+    let own = pages[i] as u64;
+    let mut t = (lo + (step.0 - 1)) / step.0 * step.0;
+    while t <= hi {
+        let here = lost
+            + walk::job_loss(
+                stiffnesses[i],
+                PagesPerHour(rates[i]),
+                pages[8 + i],
+                Seconds(t),
+            );
+        let floor = here
+            + walk::loss_floor(seconds, pages, rates, stiffnesses, i + 1, n, Seconds(t));
+        if marks[BOUND] <= floor {
+            return;
+        }
+        let more = written * ((t / step.0) as u64) + own;
+        let next = t + step.0;
+        if may_enter(
+            seconds,
+            rates,
+            i + 1,
+            n,
+            budget,
+            Seconds(t),
+            more,
+            floor,
+            rows,
+            marks,
+        ) {
+            periods[i] = t;
+            find_stairs(
+                seconds,
+                pages,
+                rates,
+                stiffnesses,
+                i + 1,
+                n,
+                budget,
+                Seconds(t),
+                more,
+                here,
+                periods,
+                rows,
+                marks,
+            );
+        }
+        t = next;
+    }
+}
+
+// Whether a plan that begins so could enter: jobs i to n are still to come, and the loss is at least `floor`.
+fn may_enter(
+    seconds: &[u32; 16],
+    rates: &[u32; 17],
+    i: usize,
+    n: usize,
+    budget: PagesPerHour,
+    t: Seconds,
+    written: u64,
+    floor: u64,
+    rows: &[u64; 768],
+    marks: &[u64; 2],
+) -> bool
+    requires { ⌜ ReadyForCut (now seconds) (now rates) i n t written ⌝ }
+    requires { ⌜ floor < noBound ⌝ }
+    requires { ⌜ getD (now marks) 0 0 ≤ 256 ⌝ }
+    requires { ⌜ Rises (getD (now marks) 0 0) (now rows) ⌝ }
+    ensures { λ r. ⌜ (r ≡ false → EntersNothing (now (seconds .entry)) (now (rates .entry)) i n budget t written floor (now (rows .entry)) (now (marks .entry))) ⌝ }
+{
+    let need_floor = walk::need_of(written, t).0 + rates[8 + i];
+    if budget.0 < need_floor {
+        return false;
+    }
+    let count = marks[COUNT] as usize;
+    if covers(rows, count, PagesPerHour(need_floor), floor) {
+        return false;
+    }
+    walk::reaches(seconds, i, n, t)
+}
 
 // One whole plan: it enters if it fits the budget, loses less than the bound, and no row covers it.
 fn enter_plan(
