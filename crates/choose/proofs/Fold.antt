@@ -19,7 +19,7 @@ use Rattle.walk.proofs.Chains.{multiples-lists, chains-only, chains-all, chains
 use Rattle.walk.proofs.Walk.{walk-all}
 use Rattle.choose.proofs.Updates.{pick-over, pick-first, pick-less-loss, pick-less-need, pick-more-loss, pick-no-less}
 
-not-after-self : (ts : List Seconds) → NotAfter ts ts
+pub not-after-self : (ts : List Seconds) → NotAfter ts ts
 not-after-self [] = tt
 not-after-self (t ∷ ts) = (le-refl _, λ e. not-after-self ts)
 

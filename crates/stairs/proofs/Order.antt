@@ -8,7 +8,7 @@ use Prim.Native.Nat.{ℕ, suc, _≤_, _<_}
 use native.Mathlib.Omega.{arith}
 use native.Mathlib.Decide.{decLt}
 use native.Mathlib.Nat.{le-refl}
-use lib.ListN.{length, getD, take, drop}
+use lib.ListN.{length, getD, take, drop, length-append}
 use lib.Seq.{split-at}
 use lib.Dec.{ltb}
 use borrow.Author.Tests.{ltb-true, lt-ltb, le-ltb}
@@ -104,6 +104,10 @@ module _ (q l : ℕ) (ts : List Seconds) (rows : List Stair) (s : Staircase rows
   pub among-new : List·Memᴰ (stair q l ts) (among q l ts rows)
   unfolding among
   among-new = Memᴰ·append-right (losingLess l rows) (List·Memᴰ·head refl)
+
+  pub among-some : 1 ≤ length (among q l ts rows)
+  unfolding among
+  among-some = omega (arith, length-append (losingLess l rows) (stair q l ts ∷ needingLess q rows))
 
   pub among-in : {r : Stair} → List·Memᴰ r (among q l ts rows) → (r ≡ stair q l ts) ⊎ List·Memᴰ r rows
   unfolding among
