@@ -46,6 +46,10 @@ pub record Served (js : List Job) (rows : List Stair) (us : List Seconds) : Type
 abbrev pub Serves : List Job → ℕ → Stairs → List Seconds → Type 0
 Serves js b s us = need js us .0 ≤ b → loss js us < s .bound → Served js (s .rows) us
 
+-- by the same row, among others
+pub still-served : {js : List Job} {rows : List Stair} (others : List Stair) {us : List Seconds} (a : Served js rows us) → List·Memᴰ (a .by .row) others → Served js others us
+still-served others a m = record { by = record { row = a .by .row; stands = m; needs = a .by .needs; loses = a .by .loses }; first = a .first }
+
 -- From `had` to `after`, with the lists xs to come: what was served still is.
 record Change (js : List Job) (b : ℕ) (xs : List (List Seconds)) (had after : Stairs) : Type 0 where
   law : Law js b xs after
@@ -68,8 +72,7 @@ module _ (js : List Job) (b : ℕ) (xs : List (List Seconds)) (s : Stairs) (law 
       serves : (us : List Seconds) → Serves js b s us → need js us .0 ≤ b → loss js us < c .its-loss → Served js (losingLess (c .its-loss) (s .rows)) us
       serves us h fits less =
           let a = h fits (omega (arith, law .bounded c m)) in
-          let i = losing-has (c .its-loss) (s .rows) (law .order) (a .by .stands) (omega (arith, a .by .loses)) in
-          record { by = record { row = a .by .row; stands = i; needs = a .by .needs; loses = a .by .loses }; first = a .first }
+          still-served (losingLess (c .its-loss) (s .rows)) a (losing-has (c .its-loss) (s .rows) (law .order) (a .by .stands) (omega (arith, a .by .loses)))
 
   -- the limit on the number of rows
   limited : (most : ℕ) → 1 ≤ most → Change js b xs s (atMost most (s .rows) (s .bound))
@@ -88,7 +91,7 @@ record Step (js : List Job) (b : ℕ) (x : List Seconds) (xs : List (List Second
   here : Serves js b after x
 
 -- The update, at a list with its own need and loss.
-abbrev pub entering : List Job → ℕ → ℕ → List Seconds → Stairs → Stairs
+abbrev entering : List Job → ℕ → ℕ → List Seconds → Stairs → Stairs
 entering js most b ts = enter most b (need js ts .0) (loss js ts) ts
 
 module _ (js : List Job) (b : ℕ) (x : List Seconds) (xs : List (List Seconds)) (s : Stairs) (law : Law js b (x ∷ xs) s) where
@@ -135,13 +138,10 @@ module _ (js : List Job) (b : ℕ) (x : List Seconds) (xs : List (List Seconds))
 
         -- a row that leaves has no less need and no less loss than x, and not both the same: it would have covered x
         serves : (us : List Seconds) → Served js (s .rows) us → Served js (among q l x (s .rows)) us
-        serves us a = ⊎-elim stays leaves (among-has q l x (s .rows) (law .order) (a .by .stands))
+        serves us a = ⊎-elim (still-served (among q l x (s .rows)) a) leaves (among-has q l x (s .rows) (law .order) (a .by .stands))
           where
             r : Stair
             r = a .by .row
-
-            stays : List·Memᴰ r (among q l x (s .rows)) → Served js (among q l x (s .rows)) us
-            stays m = record { by = record { row = r; stands = m; needs = a .by .needs; loses = a .by .loses }; first = a .first }
 
             leaves : (l ≤ r .its-loss) × (q ≤ r .its-need) → Served js (among q l x (s .rows)) us
             leaves h = by-x us (le-trans (h .1) (a .by .needs)) (le-trans (h .0) (a .by .loses)) (λ e d. absurd (clash e d))
@@ -174,10 +174,10 @@ module _ (js : List Job) (b : ℕ) (x : List Seconds) (xs : List (List Seconds))
             })
 
 -- From `had` to `after` by all the lists xs.
-pub record Passed (js : List Job) (b : ℕ) (xs : List (List Seconds)) (had after : Stairs) : Type 0 where
-  pub law : Law js b [] after
-  pub serves : (us : List Seconds) → List·Memᴰ us xs → Serves js b after us
-  pub serves-more : (us : List Seconds) → Serves js b had us → Serves js b after us
+record Passed (js : List Job) (b : ℕ) (xs : List (List Seconds)) (had after : Stairs) : Type 0 where
+  law : Law js b [] after
+  serves : (us : List Seconds) → List·Memᴰ us xs → Serves js b after us
+  serves-more : (us : List Seconds) → Serves js b had us → Serves js b after us
 
 module _ (js : List Job) (most b : ℕ) (pos : 1 ≤ most) where
   fold-passes : (xs : List (List Seconds)) (s : Stairs) → Sorted xs → ((x : List Seconds) → List·Memᴰ x xs → Permitted js x) → Law js b xs s → Passed js b xs s (visit (entering js most b) s xs)
