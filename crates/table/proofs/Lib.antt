@@ -3,6 +3,7 @@ pub mod Best
 pub mod OneOutcome
 pub mod Descent
 pub mod Reading
+pub mod Next
 pub mod Counting
 pub mod TableRows
 pub mod Outcome
