@@ -7,12 +7,8 @@ use native.Mathlib.Omega.{arith}
 use lib.ListN.{length, getD, take}
 use lib.Seq.{take-length}
 use Rattle.model.specs.declared.Job.{Job}
-use Rattle.walk.specs.Chains.{multiples, chains}
-use Rattle.walk.specs.Walk.{visit, Node, walk}
-use Rattle.stairs.specs.Stairs.{Stair, Stairs, enter}
+use Rattle.stairs.specs.Stairs.{Stair}
 use Rattle.stairs.specs.Next.{Answer, NextAnswers, lastNeed}
-use Rattle.walk.proofs.Walk.{atPlan, walk-visits}
-use Rattle.stairs.proofs.Updates.{enter-few}
 
 module _ (d : Stair) where
   pub answer-at : {js : List Job} (limit : ℕ) (rows : List Stair) (k : ℕ) → NextAnswers js limit rows → k < length rows → Answer js (lastNeed limit (take k rows)) (getD rows k d)
@@ -21,7 +17,7 @@ module _ (d : Stair) where
   answer-at limit (r ∷ rows) zero h less = h .0
   answer-at limit (r ∷ rows) (suc k) h less = answer-at (r .its-need) rows k (h .1) (omega arith)
 
-  -- what the rows up to a place leave is below the need of the row there
+  -- what the rows up to a place leave to come is below the need of the row there
   pub need-at : (limit : ℕ) (rows : List Stair) (k : ℕ) → k < length rows → lastNeed limit (take (suc k) rows) ≡ getD rows k d .its-need
   unfolding lastNeed
   need-at limit [] k less = absurd (omega arith)
@@ -39,14 +35,3 @@ pub limit-falls : (js : List Job) (limit : ℕ) (rows : List Stair) → NextAnsw
 unfolding lastNeed
 limit-falls js limit [] h = omega arith
 limit-falls js limit (r ∷ rows) h = omega (arith, answer-below (h .0), limit-falls js (r .its-need) rows (h .1))
-
-visit-few : {B : Type 0} (most : ℕ) (f : B → Stairs → Stairs) → ((x : B) (s : Stairs) → length (s .rows) ≤ most → length (f x s .rows) ≤ most) →
-    (s : Stairs) (xs : List B) → length (s .rows) ≤ most → length (visit f s xs .rows) ≤ most
-unfolding visit
-visit-few most f each s [] h = h
-visit-few most f each s (x ∷ xs) h = visit-few most f each (f x s) xs (each x s h)
-
--- a walk leaves no more rows than may stand
-pub walk-few : (most b : ℕ) (js : List Job) (n : Node) (s : Stairs) → length (s .rows) ≤ most → length (walk (enter most b) js n s .rows) ≤ most
-unfolding atPlan
-walk-few most b js n s h = rw (walk-visits multiples (enter most b) js n s) (visit-few most (atPlan (enter most b) js n) (λ ts a. enter-few most b _ _ _ a) s (chains (n .before) js) h)
