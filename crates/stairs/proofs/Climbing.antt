@@ -15,7 +15,7 @@ use Rattle.model.specs.Model.{seconds}
 use Rattle.walk.specs.Steps.{needAt, Unreached, ReadyForCut}
 use Rattle.walk.proofs.Cuts.{floors-cut, reach-cut}
 use Rattle.stairs.specs.Stairs.{Stairs, noBound, enter}
-use Rattle.stairs.specs.Rows.{most, rowsFrom, stairsOf, Covers, Standing, EntersNothing, Climbs, NextAnswers}
+use Rattle.stairs.specs.Rows.{most, rowsFrom, stairsOf, Covers, Standing, EntersNothing, Climbs, Collects}
 use Rattle.stairs.proofs.Updates.{keeps-over, keeps-covered}
 use Rattle.stairs.proofs.Entering.{row-covers}
 
@@ -47,7 +47,7 @@ period-set {n} {i} {t} {ps} {flat} {marks} few less hour s =
       marks-size = s .marks-size;
       count-to = s .count-to;
       rises = s .rises;
-      blanks = s .blanks;
+      legible = s .legible;
     }
   where
     within : (k : ℕ) → getD (set ps i t) k 0 ≤ 3600
@@ -72,11 +72,11 @@ none-stand n size =
       marks-size = refl;
       count-to = zero-le;
       rises = record { loss-rises = λ a c less to. absurd (omega arith); need-falls = λ a c less to. absurd (omega arith) };
-      blanks = λ a to. absurd (omega arith);
+      legible = λ a to. absurd (omega arith);
     }
 
 -- after it: the rows that it makes of none
 pub answers : {spans runs rates weights : List ℕ} {n : ℕ} {b : PagesPerHour} {ps flat flat′ marks′ : List ℕ} →
-    Climbs spans runs rates weights 0 n b (seconds 1) 0 0 (replicate 8 0) ps flat flat′ (0 ∷ (noBound ∷ [])) marks′ → NextAnswers spans runs rates weights n b (getD marks′ 0 0) flat′
+    Climbs spans runs rates weights 0 n b (seconds 1) 0 0 (replicate 8 0) ps flat flat′ (0 ∷ (noBound ∷ [])) marks′ → Collects spans runs rates weights n b (getD marks′ 0 0) flat′
 unfolding rowsFrom
-answers c = record { few = c .stands .count-to; size = c .stands .rows-size; rises = c .stands .rises; blanks = c .stands .blanks; are = λ js held. ap (λ (s : Stairs). s .rows) (c .walked .is js held) }
+answers c = record { few = c .stands .count-to; size = c .stands .rows-size; rises = c .stands .rises; legible = c .stands .legible; are = λ js held. ap (λ (s : Stairs). s .rows) (c .walked .is js held) }

@@ -9,7 +9,7 @@ use lib.ListN.{length, getD}
 use Rattle.model.specs.declared.Seconds.{Seconds}
 use Rattle.walk.specs.Steps.{periodsIn}
 use Rattle.stairs.specs.Stairs.{Stair, stair}
-use Rattle.stairs.specs.Rows.{periodsOf, needIn, lossIn, periodsAt, rowAt, rowsFrom, Rises, Moved, Blank, Stored, Place}
+use Rattle.stairs.specs.Rows.{periodsOf, needIn, lossIn, periodsAt, rowAt, rowsFrom, lowIn, Rises, Moved, Blank, Legible, Stored, Place}
 
 stair-same : {q q′ l l′ : ℕ} {ts ts′ : List Seconds} → q ≡ q′ → l ≡ l′ → ts ≡ ts′ → stair q l ts ≡ stair q′ l′ ts′
 stair-same a b c = rw (a, b, c)
@@ -34,6 +34,9 @@ module _ (flat flat′ : List ℕ) (a b : ℕ) (h : (m : ℕ) → m < 3 → getD
   pub row-same : (n : ℕ) → rowAt n flat a ≡ rowAt n flat′ b
   unfolding rowAt
   row-same n = stair-same need-same loss-same (ap (periodsIn n) periods-same)
+
+  pub legible-same : (n : ℕ) → Legible n flat′ b → Legible n flat a
+  legible-same n r = record { blank = subst (Blank n) (sym periods-same) (r .blank); low-fits = omega (arith, h 1 (omega arith), r .low-fits) }
 
 module _ (n : ℕ) (flat : List ℕ) where
   pub rows-length : (i k : ℕ) → length (rowsFrom n flat i k) ≡ k
@@ -73,6 +76,7 @@ pub record Between (i j e q l : ℕ) (ps flat flat′ : List ℕ) : Type 0 where
   pub its-need : needIn flat′ i ≡ q
   pub its-loss : lossIn flat′ i ≡ l
   pub periods : periodsAt flat′ i ≡ ps
+  pub low-fits : lowIn flat′ i < 2 ^ 64
   pub behind : (a m : ℕ) → a < e - j → m < 3 → getD flat′ (3 * (i + 1 + a) + m) 0 ≡ getD flat (3 * (j + a) + m) 0
 
 pub moved-stored : {i j e q l : ℕ} {ps flat flat₁ flat′ : List ℕ} → Moved i j e flat flat₁ → Stored i q l ps flat₁ flat′ → Between i j e q l ps flat flat′
@@ -83,6 +87,7 @@ moved-stored {i} {j} {e} {q} {l} {ps} {flat} {flat₁} {flat′} m s =
       its-need = s .its-need;
       its-loss = s .its-loss;
       periods = s .periods;
+      low-fits = s .low-fits;
       behind = later;
     }
   where
@@ -112,14 +117,16 @@ module _ {i j e q l k : ℕ} {ps flat flat′ : List ℕ} (within : e ≤ k) (p 
   later : (a : ℕ) → i < a → i + 1 + (a - (i + 1)) ≡ a
   later a more = omega arith
 
-  -- no period stands from place n on
-  pub between-blanks : {n : ℕ} → Blank n ps → ((a : ℕ) → a < k → Blank n (periodsAt flat a)) → (a : ℕ) → a < i + 1 + (e - j) → Blank n (periodsAt flat′ a)
-  between-blanks {n} new old a to = go (decLt a i) (decLt i a)
+  -- each has n periods
+  pub between-legible : {n : ℕ} → Blank n ps → ((a : ℕ) → a < k → Legible n flat a) → (a : ℕ) → a < i + 1 + (e - j) → Legible n flat′ a
+  between-legible {n} new old a to = go (decLt a i) (decLt i a)
     where
-      go : Dec (a < i) → Dec (i < a) → Blank n (periodsAt flat′ a)
-      go (yes f) x = subst (Blank n) (sym (periods-same flat′ flat a a (λ m three. b .front a m f three))) (old a (let o = p .order in let u = p .upto in omega arith))
-      go (no f) (yes g) = subst (Blank n) (sym (ap (periodsAt flat′) (sym (later a g)) ∙ periods-same flat′ flat (i + 1 + (a - (i + 1))) (j + (a - (i + 1))) (λ m three. b .behind (a - (i + 1)) m (omega arith) three))) (old (j + (a - (i + 1))) (omega arith))
-      go (no f) (no g) = let is : a ≡ i = omega arith in subst (Blank n) (sym (ap (periodsAt flat′) is ∙ b .periods)) new
+      go : Dec (a < i) → Dec (i < a) → Legible n flat′ a
+      go (yes f) x = legible-same flat′ flat a a (λ m three. b .front a m f three) n (old a (let o = p .order in let u = p .upto in omega arith))
+      go (no f) (yes g) = subst (Legible n flat′) (later a g) (legible-same flat′ flat (i + 1 + (a - (i + 1))) (j + (a - (i + 1))) (λ m three. b .behind (a - (i + 1)) m (omega arith) three) n (old (j + (a - (i + 1))) (omega arith)))
+      go (no f) (no g) =
+          let is : a ≡ i = omega arith in
+          subst (Legible n flat′) (sym is) (record { blank = subst (Blank n) (sym (b .periods)) new; low-fits = b .low-fits })
 
   -- and they rise
   module _ (r : Rises k flat) where

@@ -65,6 +65,7 @@ row-stored {i} {q} {l} {high} {low} {ps} {flat} fits room size is-high is-low =
       its-need = ap (λ (x : ℕ). x / 2 ^ 32) first ∙ need-back q ps fits;
       its-loss = getD-set-same two (3 * i + 2) l 0 (omega (arith, size₂));
       periods = ap₂ periodsOf first second ∙ periods-back q ps fits;
+      low-fits = omega (arith, second);
     }
   where
     one : List ℕ

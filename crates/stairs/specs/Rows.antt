@@ -34,12 +34,15 @@ periodsOf high low =
 abbrev pub needIn : List ℕ → ℕ → ℕ
 needIn flat i = getD flat (3 * i) 0 / 2 ^ 32
 
+abbrev pub lowIn : List ℕ → ℕ → ℕ
+lowIn flat i = getD flat (3 * i + 1) 0
+
 abbrev pub lossIn : List ℕ → ℕ → ℕ
 lossIn flat i = getD flat (3 * i + 2) 0
 
 -- The eight periods at place i.
 abbrev pub periodsAt : List ℕ → ℕ → List ℕ
-periodsAt flat i = periodsOf (getD flat (3 * i) 0) (getD flat (3 * i + 1) 0)
+periodsAt flat i = periodsOf (getD flat (3 * i) 0) (lowIn flat i)
 
 -- The row at place i, with n periods.
 unfoldable pub rowAt : ℕ → List ℕ → ℕ → Stair
@@ -108,6 +111,11 @@ pub record Fields (ps : List ℕ) : Type 0 where
 abbrev pub Blank : ℕ → List ℕ → Type 0
 Blank n ps = (k : ℕ) → n ≤ k → getD ps k 0 ≡ 0
 
+-- The row at place i has n periods in two words of 64 bits.
+pub record Legible (n : ℕ) (flat : List ℕ) (i : ℕ) : Type 0 where
+  pub blank : Blank n (periodsAt flat i)
+  pub low-fits : lowIn flat i < 2 ^ 64
+
 -- The row at place i is this plan, and the other rows stand.
 pub record Stored (i need loss : ℕ) (ps flat flat′ : List ℕ) : Type 0 where
   pub size : length flat′ ≡ 768
@@ -116,6 +124,7 @@ pub record Stored (i need loss : ℕ) (ps flat flat′ : List ℕ) : Type 0 wher
   pub its-need : needIn flat′ i ≡ need
   pub its-loss : lossIn flat′ i ≡ loss
   pub periods : periodsAt flat′ i ≡ ps
+  pub low-fits : lowIn flat′ i < 2 ^ 64
 
 -- A plan of need q and loss l belongs to place i of k rows: the rows before lose less and need more, those from place j on
 -- lose more and need less, and those between, which do not cover it, have no less of both.
@@ -138,7 +147,7 @@ pub record Standing (n : ℕ) (ps flat marks : List ℕ) : Type 0 where
   pub marks-size : length marks ≡ 2
   pub count-to : getD marks 0 0 ≤ 256
   pub rises : Rises (getD marks 0 0) flat
-  pub blanks : (a : ℕ) → a < getD marks 0 0 → Blank n (periodsAt flat a)
+  pub legible : (a : ℕ) → a < getD marks 0 0 → Legible n flat a
 
 -- The plan stands at place i, before what stood from place j on, and at most so many rows.
 pub record Puts (n q l i j : ℕ) (ps flat marks flat′ marks′ : List ℕ) : Type 0 where
@@ -164,9 +173,9 @@ abbrev pub Begins : List ℕ → List ℕ → List ℕ → List ℕ → ℕ → 
 Begins spans runs rates weights n = Ready spans runs rates weights 0 n (seconds 1) 0 0
 
 -- The first r rows are those that the whole walk makes of none, each with n periods.
-pub record NextAnswers (spans runs rates weights : List ℕ) (n : ℕ) (b : PagesPerHour) (r : ℕ) (flat : List ℕ) : Type 0 where
+pub record Collects (spans runs rates weights : List ℕ) (n : ℕ) (b : PagesPerHour) (r : ℕ) (flat : List ℕ) : Type 0 where
   pub few : r ≤ most
   pub size : length flat ≡ 768
   pub rises : Rises r flat
-  pub blanks : (a : ℕ) → a < r → Blank n (periodsAt flat a)
+  pub legible : (a : ℕ) → a < r → Legible n flat a
   pub are : (js : List Job) → Held spans runs rates weights 0 n js → stairsIn n r flat ≡ walk (enter most (b .0)) js start noStairs .rows

@@ -1,16 +1,19 @@
 // The next answers of a table in one walk: a staircase of plans in rising loss and falling need.
 //
-// specs/Stairs.antt says what the walk keeps, specs/Rows.antt how that stands in an array. The contracts cite both; they
-// serve other crates of the planner, and their callers meet what they require. Nothing is assumed.
+// specs/Next.antt says what the next answers are, specs/Stairs.antt what the walk keeps, specs/Rows.antt how that stands in
+// an array. They serve other crates of the planner, and their callers meet what is required. Nothing is assumed.
 use model::PagesPerHour;
+use model::Profile;
 use model::Seconds;
 ghost use mathlib.Core.Path.{_≡_};
 ghost use mathlib.Core.Bool.{false};
-ghost use Prim.Native.Nat.{_≤_, _<_};
+ghost use Prim.Native.Nat.{_^_, _≤_, _<_};
 ghost use lib.ListN.{length, getD};
+ghost use Rattle.model.specs.Model.{Valid};
 ghost use Rattle.walk.specs.Steps.{NeedFits, Ready, ReadyForCut};
 ghost use Rattle.stairs.specs.Stairs.{noBound};
-ghost use Rattle.stairs.specs.Rows.{highWord, lowWord, Periods, Fields, Rises, LosesLess, Covers, NeedsLess, Moved, Stored, Place, Standing, Puts, Enters, EntersNothing, Climbs, Begins, NextAnswers};
+ghost use Rattle.stairs.specs.Next.{AnswersBelow};
+ghost use Rattle.stairs.specs.Rows.{highWord, lowWord, Periods, Fields, Rises, LosesLess, Covers, NeedsLess, Moved, Stored, Place, Standing, Puts, Enters, EntersNothing, Climbs, Begins, Collects};
 
 // Where a row has its loss, behind its two words.
 const LOSS: usize = 2;
@@ -31,9 +34,32 @@ const BOUND: usize = 1;
 // More than any loss.
 const NO_BOUND: u64 = 0xffff_ffff_ffff_ffff;
 
-// The next answers under a budget go to the front of `rows`, at most 256 of them in rising loss and falling need; answers
-// how many.
-pub fn next_answers(
+// The next answers for the budgets below `limit` go to the front of `rows`, at most 256 of them in rising loss and falling
+// need; answers how many.
+pub fn answers_below(p: Profile, limit: u64, rows: &mut [u64; 768]) -> usize
+    requires { ⌜ Valid p ⌝ }
+    requires { ⌜ 0 < limit ⌝ }
+    requires { ⌜ limit ≤ 2 ^ 32 ⌝ }
+    requires { ⌜ length (now rows) ≡ 768 ⌝ }
+    ensures { λ r. ⌜ AnswersBelow p limit r (now (rows .exit)) ⌝ }
+{
+    let seconds = walk::seconds_of(p);
+    let pages = walk::pages_of(p);
+    let rates = walk::rates_of(p);
+    let stiffnesses = walk::stiffnesses_of(p);
+    next_answers(
+        &seconds,
+        &pages,
+        &rates,
+        &stiffnesses,
+        p.n as usize,
+        PagesPerHour((limit - 1) as u32),
+        rows,
+    )
+}
+
+// The same under a budget: the profile's numbers are lent as arrays.
+fn next_answers(
     seconds: &[u32; 16],
     pages: &[u32; 16],
     rates: &[u32; 17],
@@ -44,7 +70,7 @@ pub fn next_answers(
 ) -> usize
     requires { ⌜ Begins (now seconds) (now pages) (now rates) (now stiffnesses) n ⌝ }
     requires { ⌜ length (now rows) ≡ 768 ⌝ }
-    ensures { λ r. ⌜ NextAnswers (now (seconds .entry)) (now (pages .entry)) (now (rates .entry)) (now (stiffnesses .entry)) n budget r (now (rows .exit)) ⌝ }
+    ensures { λ r. ⌜ Collects (now (seconds .entry)) (now (pages .entry)) (now (rates .entry)) (now (stiffnesses .entry)) n budget r (now (rows .exit)) ⌝ }
 {
     let mut periods = [0u32; 8];
     let mut marks = [0u64; 2];
