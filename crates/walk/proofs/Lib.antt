@@ -4,6 +4,7 @@ pub mod Falling
 pub mod Pages
 pub mod Floors
 pub mod Walk
+pub mod Pageless
 pub mod Loops
 pub mod Bounds
 pub mod Held

@@ -23,7 +23,7 @@ quotients p t s e d =
 pub multiple-trans : (p t s : ℕ) → t % p ≡ 0 → s % t ≡ 0 → s % p ≡ 0
 multiple-trans p t s e d = ap (λ (x : ℕ). x % p) (quotients p t s e d) ∙ mul-mod-left (t / p * (s / t)) p
 
-quotient-trans : (p t s : ℕ) → 1 ≤ p → t % p ≡ 0 → s % t ≡ 0 → s / p ≡ t / p * (s / t)
+pub quotient-trans : (p t s : ℕ) → 1 ≤ p → t % p ≡ 0 → s % t ≡ 0 → s / p ≡ t / p * (s / t)
 quotient-trans p t s pos e d = div-eq-of-eq-mul-left pos (quotients p t s e d)
 
 -- Tn is a multiple of every period before it

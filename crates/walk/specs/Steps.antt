@@ -2,7 +2,7 @@
 -- Assumes nothing.
 use mathlib.Core.Path.{_≡_}
 use mathlib.Core.List.{List, [], map}
-use Prim.Native.Nat.{ℕ, _+_, _*_, _-_, _/_, _^_, _≤_, _<_}
+use Prim.Native.Nat.{ℕ, _+_, _*_, _-_, _/_, _%_, _^_, _≤_, _<_}
 use lib.ListN.{getD, take}
 use Rattle.model.specs.declared.Seconds.{Seconds}
 use Rattle.model.specs.declared.Job.{Job}
@@ -41,6 +41,10 @@ pub record Ends (spans : List ℕ) (i n : ℕ) (t : Seconds) : Type 0 where
 -- The interval at some place from i to n holds no multiple of t.
 abbrev pub Unreached : List ℕ → ℕ → ℕ → Seconds → Type 0
 Unreached spans i n t = (k : ℕ) × (i ≤ k) × (k < n) × (getD spans (8 + k) 0 / t .0 * t .0 < getD spans k 0)
+
+-- Some multiplier from `first` on, below a, divides a.
+abbrev pub Repeats : ℕ → ℕ → Type 0
+Repeats a first = (d : ℕ) × (first ≤ d) × (d < a) × (a % d ≡ 0)
 
 module _ (spans runs rates weights : List ℕ) where
   -- Some jobs are so held, and t is a period.
