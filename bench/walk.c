@@ -35,6 +35,21 @@ static int reaches(const struct walk *w, uint32_t i, uint32_t t)
     return 1;
 }
 
+static int passed_over(uint32_t a, uint32_t first)
+{
+    if (first == 1)
+        return 1 < a;
+    for (uint32_t p = 2; first <= a / p; p++)
+        if (a % p == 0)
+            return 1;
+    return 0;
+}
+
+static int repeats(const struct walk *w, uint32_t i, uint32_t a, uint32_t first)
+{
+    return w->need_pages[i] == 0 && w->loss_pages[i] == 0 && passed_over(a, first);
+}
+
 static uint32_t need_of(uint64_t pages, uint32_t t) { return (uint32_t)((3600 * pages + (t - 1)) / t); }
 
 static void find_best(struct walk *w, uint32_t i, uint32_t step, uint64_t pages, uint64_t lost)
@@ -48,11 +63,14 @@ static void find_best(struct walk *w, uint32_t i, uint32_t step, uint64_t pages,
         }
         return;
     }
-    for (uint32_t t = (w->lo[i] + step - 1) / step * step; t <= w->hi[i]; t += step) {
+    uint32_t first = (w->lo[i] + step - 1) / step;
+    for (uint32_t t = first * step; t <= w->hi[i]; t += step) {
         uint64_t here = lost + job_loss(w, i, t);
         uint64_t floor = here + loss_floor(w, i + 1, t);
         if (floor > w->loss)
             return;
+        if (repeats(w, i, t / step, first))
+            continue;
         uint64_t more = pages * (t / step) + w->need_pages[i];
         uint32_t need_floor = need_of(more, t) + w->later[i + 1];
         if (need_floor > w->budget || (floor == w->loss && need_floor >= w->need) || !reaches(w, i + 1, t))

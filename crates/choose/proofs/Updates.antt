@@ -101,11 +101,16 @@ module _ (b q l : ℕ) (ts : List Seconds) where
   kept-refused : (had : Found) → pick b q l ts had ≡ had → Refused b q l had
   kept-refused had = pick-either (λ r. r ≡ had → Refused b q l had) had (λ more e. subst (Refused b q l) e (refused-self b q l ts)) (λ k e. k)
 
+-- Whatever is found is good.
+abbrev pub AnyFound : Found → Type 0
+AnyFound had = Unit {0}
+
 -- a plan once visited takes no more part, whatever else is visited
-pub pick-absorbs : (b : ℕ) → Absorbs (pick b)
+pub pick-absorbs : (b : ℕ) → Absorbs AnyFound (pick b)
 pick-absorbs b = record {
-  after = λ q l ts had us. refused-kept b q l us (pick b q l ts had) (pick-either b q l ts (Refused b q l) had (λ more. refused-self b q l ts) (λ k. k));
-  stays = λ q l q′ l′ ts had h us. refused-kept b q l us (pick b q′ l′ ts had) (let k = kept-refused b q l [] had (h []) in pick-either b q′ l′ ts (Refused b q l) had (λ more. more q l k) (λ r. k));
+  good = λ q l ts had g. tt;
+  after = λ q l ts had g us. refused-kept b q l us (pick b q l ts had) (pick-either b q l ts (Refused b q l) had (λ more. refused-self b q l ts) (λ k. k));
+  stays = λ q l q′ l′ ts had g h us. refused-kept b q l us (pick b q′ l′ ts had) (let k = kept-refused b q l [] had (h []) in pick-either b q′ l′ ts (Refused b q l) had (λ more. more q l k) (λ r. k));
 }
 
 pub keeps-least : {m k : ℕ} → m ≤ k → Keeps lessNeed (least m) k 0

@@ -147,7 +147,8 @@ fn find_best(
     let lo = seconds[i];
     let hi = seconds[8 + i];
     let own = pages[i] as u64;
-    let mut t = (lo + (step.0 - 1)) / step.0 * step.0;
+    let first = (lo + (step.0 - 1)) / step.0;
+    let mut t = first * step.0;
     while t <= hi {
         let here = lost
             + walk::job_loss(
@@ -161,8 +162,13 @@ fn find_best(
         if best[LOSS] < floor {
             return;
         }
-        let more = written * ((t / step.0) as u64) + own;
+        let a = t / step.0;
         let next = t + step.0;
+        if walk::repeats(pages, i, a, first) {
+            t = next;
+            continue;
+        }
+        let more = written * (a as u64) + own;
         if may_win(
             seconds,
             rates,

@@ -1,7 +1,8 @@
 -- The cuts of the staircase's walk, as the code makes them, and what a further period leaves standing.
 -- Assumes nothing.
 use mathlib.Core.Path.{_≡_, refl, _∙_, ap}
-use mathlib.Core.List.{List, [], _∷_}
+use mathlib.Core.Logic.{⊎-elim}
+use mathlib.Core.List.{List, [], _∷_, List·Memᴰ, List·Memᴰ·not-nil, List·Memᴰ·cases-cons}
 use mathlib.Core.Bool.{Bool, true}
 use Prim.Native.Nat.{ℕ, zero, suc, _+_, _≤_, _<_, zero-le}
 use native.Mathlib.Omega.{arith}
@@ -14,10 +15,12 @@ use Rattle.model.specs.declared.PagesPerHour.{PagesPerHour}
 use Rattle.model.specs.Model.{seconds}
 use Rattle.walk.specs.Steps.{needAt, Unreached, ReadyForCut}
 use Rattle.walk.proofs.Cuts.{floors-cut, reach-cut}
-use Rattle.stairs.specs.Stairs.{Stairs, noBound, enter}
-use Rattle.stairs.specs.Rows.{most, rowsFrom, stairsOf, Covers, Standing, EntersNothing, Climbs, Collects}
+use Rattle.stairs.specs.Stairs.{Stair, Stairs, noBound, enter}
+use Rattle.stairs.specs.Rows.{most, rowAt, rowsFrom, stairsOf, Rises, Covers, Standing, EntersNothing, Climbs, Collects}
 use Rattle.stairs.proofs.Updates.{keeps-over, keeps-covered}
 use Rattle.stairs.proofs.Entering.{row-covers}
+use Rattle.stairs.proofs.Order.{Above, Staircase}
+use Rattle.stairs.proofs.Ordered.{Ordered}
 
 module _ {spans rates : List ℕ} {i n : ℕ} {t : Seconds} {written : ℕ} (r : ReadyForCut spans rates i n t written) (b : PagesPerHour) (floor : ℕ) (flat marks : List ℕ) where
   -- the need floor is over the budget
@@ -37,6 +40,36 @@ module _ {spans rates : List ℕ} {i n : ℕ} {t : Seconds} {written : ℕ} (r :
   pub unreached-enters-nothing : Unreached spans i n t → EntersNothing spans rates i n b t written floor flat marks
   unreached-enters-nothing = reach-cut (enter most (b .0)) (stairsOf n flat marks) r floor
 
+-- what stands in the array is in order below the bound
+module _ (n : ℕ) (flat : List ℕ) where
+  -- each row has its place
+  rows-in : (i k : ℕ) {r : Stair} → List·Memᴰ r (rowsFrom n flat i k) → (a : ℕ) × (i ≤ a) × (a < i + k) × (r ≡ rowAt n flat a)
+  unfolding rowsFrom
+  rows-in i zero m = absurd (List·Memᴰ·not-nil m)
+  rows-in i (suc k) m = ⊎-elim (λ e. (i, le-refl i, omega arith, e)) (λ o. (let a = rows-in (i + 1) k o in let from = a .1 in let to = a .2 in (a .0, omega arith, omega arith, a .3))) (List·Memᴰ·cases-cons m)
+
+  rows-staircase : {count : ℕ} → Rises count flat → (i k : ℕ) → i + k ≤ count → Staircase (rowsFrom n flat i k)
+  unfolding rowsFrom rowAt
+  rows-staircase r i zero to = tt
+  rows-staircase r i (suc k) to = (above, rows-staircase r (i + 1) k (omega arith))
+    where
+      above : (s : Stair) → List·Memᴰ s (rowsFrom n flat (i + 1) k) → Above (rowAt n flat i) s
+      above s m =
+          let a = rows-in (i + 1) k m in
+          let from = a .1 in
+          let below = a .2 in
+          rw (a .3) (record { loses = r .loss-rises i (a .0) (omega arith) (omega arith); needs = r .need-falls i (a .0) (omega arith) (omega arith) })
+
+pub standing-ordered : {n : ℕ} {ps flat marks : List ℕ} → Standing n ps flat marks → Ordered (stairsOf n flat marks)
+unfolding rowAt
+standing-ordered {n} {ps} {flat} {marks} s = record { order = rows-staircase n flat (s .rises) 0 (getD marks 0 0) (omega arith); bounded = below }
+  where
+    below : (r : Stair) → List·Memᴰ r (rowsFrom n flat 0 (getD marks 0 0)) → r .its-loss < getD marks 1 0
+    below r m =
+        let a = rows-in n flat 0 (getD marks 0 0) m in
+        let to = a .2 in
+        rw (a .3) (s .bounded (a .0) (omega arith))
+
 -- one more period within the hour
 pub period-set : {n i t : ℕ} {ps flat marks : List ℕ} → n ≤ 8 → i < n → t ≤ 3600 → Standing n ps flat marks → Standing n (set ps i t) flat marks
 period-set {n} {i} {t} {ps} {flat} {marks} few less hour s =
@@ -47,6 +80,7 @@ period-set {n} {i} {t} {ps} {flat} {marks} few less hour s =
       marks-size = s .marks-size;
       count-to = s .count-to;
       rises = s .rises;
+      bounded = s .bounded;
       legible = s .legible;
     }
   where
@@ -72,6 +106,7 @@ none-stand n size =
       marks-size = refl;
       count-to = zero-le;
       rises = record { loss-rises = λ a c less to. absurd (omega arith); need-falls = λ a c less to. absurd (omega arith) };
+      bounded = λ a to. absurd (omega arith);
       legible = λ a to. absurd (omega arith);
     }
 

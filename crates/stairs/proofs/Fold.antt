@@ -1,27 +1,27 @@
 -- Going through all permitted lists in order, every list so far that fits and loses less than the bound is served by a row: a row
 -- leaves only for a plan that serves all that it served, or with the bound set to its loss.
 -- Assumes nothing.
-use mathlib.Core.Path.{_≡_, refl, sym, _∙_, ap, subst}
+use mathlib.Core.Path.{_≡_, refl, sym, _∙_, subst}
 use mathlib.Core.Logic.{⊎-elim}
 use mathlib.Core.List.{List, [], _∷_, List·Memᴰ, List·Memᴰ·head, List·Memᴰ·tail, List·Memᴰ·not-nil, List·Memᴰ·cases-cons}
-use mathlib.Core.Bool.{Bool, true, false, false≢true}
+use mathlib.Core.Bool.{false, false≢true}
 use Prim.Native.Nat.{ℕ, _≤_, _<_}
 use native.Mathlib.Omega.{arith}
-use native.Mathlib.Decide.{decLe, decLt}
 use native.Mathlib.Nat.{le-refl, le-trans}
-use lib.ListN.{length, getD, length-take}
+use lib.ListN.{length}
 use Rattle.model.specs.declared.Seconds.{Seconds}
 use Rattle.model.specs.declared.Job.{Job}
 use Rattle.model.specs.Model.{seconds, ValidJobs, Permitted, need, loss, NotAfter}
 use Rattle.walk.specs.Chains.{chains}
 use Rattle.walk.specs.Walk.{visit, start, walk}
-use Rattle.stairs.specs.Stairs.{Stair, stair, Stairs, noBound, noStairs, covered, losingLess, among, atMost, enter}
+use Rattle.stairs.specs.Stairs.{Stair, stair, Stairs, noBound, noStairs, covered, among, atMost, enter}
 use Rattle.walk.proofs.Sorted.{Sorted}
 use Rattle.walk.proofs.Chains.{multiples-lists, chains-only, chains-all, chains-sorted}
 use Rattle.walk.proofs.Walk.{walk-all}
 use Rattle.choose.proofs.Fold.{not-after-self}
-use Rattle.stairs.proofs.Updates.{Covering, covering, covers, enter-over, enter-bound, enter-covered, enter-new, at-most-all, at-most-cut}
-use Rattle.stairs.proofs.Order.{Staircase, losing-in, losing-has, losing-staircase, among-new, among-some, among-in, among-has, among-staircase, take-losing, cut-in}
+use Rattle.stairs.proofs.Updates.{Covering, covers}
+use Rattle.stairs.proofs.Order.{among-new, among-some, among-in, among-has}
+use Rattle.stairs.proofs.Ordered.{Ordered, entered, Limited, enter-either}
 
 -- A row is a permitted plan that fits, with its own need and loss.
 pub record Plan (js : List Job) (b : ℕ) (r : Stair) : Type 0 where
@@ -32,9 +32,8 @@ pub record Plan (js : List Job) (b : ℕ) (r : Stair) : Type 0 where
 
 -- The rows are plans in order that lose less than the bound and come after none of the lists to come; with no row there is no bound.
 pub record Law (js : List Job) (b : ℕ) (rest : List (List Seconds)) (s : Stairs) : Type 0 where
-  pub order : Staircase (s .rows)
+  pub ordered : Ordered s
   pub plans : (r : Stair) → List·Memᴰ r (s .rows) → Plan js b r
-  pub bounded : (r : Stair) → List·Memᴰ r (s .rows) → r .its-loss < s .bound
   pub not-after : (r : Stair) → List·Memᴰ r (s .rows) → (us : List Seconds) → List·Memᴰ us rest → NotAfter (r .periods) us
   pub unbound : length (s .rows) ≡ 0 → s .bound ≡ noBound
 
@@ -55,35 +54,22 @@ record Change (js : List Job) (b : ℕ) (xs : List (List Seconds)) (had after : 
   law : Law js b xs after
   serves : (us : List Seconds) → Serves js b had us → Serves js b after us
 
--- the rows that lose less than one of them, with its loss as the bound
-module _ (js : List Job) (b : ℕ) (xs : List (List Seconds)) (s : Stairs) (law : Law js b xs s) where
-  cut : (c : Stair) → List·Memᴰ c (s .rows) → 1 ≤ length (losingLess (c .its-loss) (s .rows)) → Change js b xs s (record { rows = losingLess (c .its-loss) (s .rows); bound = c .its-loss })
-  cut c m some = record {
-    law = record {
-      order = losing-staircase (c .its-loss) (s .rows) (law .order);
-      plans = λ r n. law .plans r (losing-in (c .its-loss) (s .rows) n .0);
-      bounded = λ r n. losing-in (c .its-loss) (s .rows) n .1;
-      not-after = λ r n. law .not-after r (losing-in (c .its-loss) (s .rows) n .0);
-      unbound = λ e. absurd (omega arith);
-    };
-    serves = serves;
-  }
-    where
-      serves : (us : List Seconds) → Serves js b s us → need js us .0 ≤ b → loss js us < c .its-loss → Served js (losingLess (c .its-loss) (s .rows)) us
-      serves us h fits less =
-          let a = h fits (omega (arith, law .bounded c m)) in
-          still-served (losingLess (c .its-loss) (s .rows)) a (losing-has (c .its-loss) (s .rows) (law .order) (a .by .stands) (omega (arith, a .by .loses)))
-
-  -- the limit on the number of rows
-  limited : (most : ℕ) → 1 ≤ most → Change js b xs s (atMost most (s .rows) (s .bound))
-  limited most pos = go (decLt most (length (s .rows)))
-    where
-      go : Dec (most < length (s .rows)) → Change js b xs s (atMost most (s .rows) (s .bound))
-      go (no few) = rw (at-most-all most (s .rows) (s .bound) (omega arith)) (record { law = law; serves = λ us h. h })
-      go (yes more) =
-          let e = take-losing most (s .rows) (law .order) more in
-          let some : 1 ≤ length (losingLess (getD (s .rows) most (stair 0 0 []) .its-loss) (s .rows)) = omega (arith, ap length e, length-take most (s .rows)) in
-          rw (at-most-cut most (s .rows) (s .bound) more, e) (cut (getD (s .rows) most (stair 0 0 [])) (cut-in most (s .rows) (law .order) more) some)
+-- the limit on the number of rows
+limits : {js : List Job} {b : ℕ} {xs : List (List Seconds)} {s after : Stairs} → Law js b xs s → Limited s after → Change js b xs s after
+limits {js} {b} {xs} {s} {after} law few = record {
+  law = record {
+    ordered = few .ordered;
+    plans = λ r n. law .plans r (few .stood r n);
+    not-after = λ r n. law .not-after r (few .stood r n);
+    unbound = λ e. few .none e .1 ∙ law .unbound (few .none e .0);
+  };
+  serves = serves;
+}
+  where
+    serves : (us : List Seconds) → Serves js b s us → need js us .0 ≤ b → loss js us < after .bound → Served js (after .rows) us
+    serves us h fits less =
+        let a = h fits (omega (arith, few .lower)) in
+        still-served (after .rows) a (few .stands (a .by .row) (a .by .stands) (omega (arith, a .by .loses)))
 
 -- From `had` to `after` by the list x: that is served too.
 record Step (js : List Job) (b : ℕ) (x : List Seconds) (xs : List (List Seconds)) (had after : Stairs) : Type 0 where
@@ -99,7 +85,7 @@ module _ (js : List Job) (b : ℕ) (x : List Seconds) (xs : List (List Seconds))
   kept : Serves js b s x → Step js b x xs s s
   kept h = record {
     change = record {
-      law = record { order = law .order; plans = law .plans; bounded = law .bounded; not-after = λ r m us n. law .not-after r m us (List·Memᴰ·tail n); unbound = law .unbound };
+      law = record { ordered = law .ordered; plans = law .plans; not-after = λ r m us n. law .not-after r m us (List·Memᴰ·tail n); unbound = law .unbound };
       serves = λ us k. k;
     };
     here = h;
@@ -107,16 +93,14 @@ module _ (js : List Job) (b : ℕ) (x : List Seconds) (xs : List (List Seconds))
 
   module _ (permitted : Permitted js x) (later : (y : List Seconds) → List·Memᴰ y xs → NotAfter x y) where
     -- x among them
-    taken : need js x .0 ≤ b → loss js x < s .bound → covered (need js x .0) (loss js x) (s .rows) ≡ false →
-        Step js b x xs s (record { rows = among (need js x .0) (loss js x) x (s .rows); bound = s .bound })
-    taken fits less new = record {
+    taken : need js x .0 ≤ b → covered (need js x .0) (loss js x) (s .rows) ≡ false → Ordered (entered (need js x .0) (loss js x) x s) → Step js b x xs s (entered (need js x .0) (loss js x) x s)
+    taken fits new ordered = record {
       change = record {
         law = record {
-          order = among-staircase q l x (s .rows) (law .order) new;
+          ordered = ordered;
           plans = each (Plan js b) (record { need-is = refl; loss-is = refl; permitted = permitted; fits = fits }) (law .plans);
-          bounded = each (λ r. r .its-loss < s .bound) less (law .bounded);
           not-after = each (λ r. (us : List Seconds) → List·Memᴰ us xs → NotAfter (r .periods) us) later (λ r m us n. law .not-after r m us (List·Memᴰ·tail n));
-          unbound = λ e. absurd (omega (arith, among-some q l x (s .rows) (law .order)));
+          unbound = λ e. absurd (omega (arith, among-some q l x (s .rows) (law .ordered .order)));
         };
         serves = λ us h fit low. serves us (h fit low);
       };
@@ -131,14 +115,14 @@ module _ (js : List Job) (b : ℕ) (x : List Seconds) (xs : List (List Seconds))
 
         -- what holds of x and of the rows that there were
         each : (P : Stair → Type 0) → P (stair q l x) → ((r : Stair) → List·Memᴰ r (s .rows) → P r) → (r : Stair) → List·Memᴰ r (among q l x (s .rows)) → P r
-        each P at-x at-rows r m = ⊎-elim (λ e. subst P (sym e) at-x) (at-rows r) (among-in q l x (s .rows) (law .order) m)
+        each P at-x at-rows r m = ⊎-elim (λ e. subst P (sym e) at-x) (at-rows r) (among-in q l x (s .rows) (law .ordered .order) m)
 
         by-x : (us : List Seconds) → q ≤ need js us .0 → l ≤ loss js us → (q ≡ need js us .0 → l ≡ loss js us → NotAfter x us) → Served js (among q l x (s .rows)) us
-        by-x us needs loses first = record { by = record { row = stair q l x; stands = among-new q l x (s .rows) (law .order); needs = needs; loses = loses }; first = first }
+        by-x us needs loses first = record { by = record { row = stair q l x; stands = among-new q l x (s .rows) (law .ordered .order); needs = needs; loses = loses }; first = first }
 
         -- a row that leaves has no less need and no less loss than x, and not both the same: it would have covered x
         serves : (us : List Seconds) → Served js (s .rows) us → Served js (among q l x (s .rows)) us
-        serves us a = ⊎-elim (still-served (among q l x (s .rows)) a) leaves (among-has q l x (s .rows) (law .order) (a .by .stands))
+        serves us a = ⊎-elim (still-served (among q l x (s .rows)) a) leaves (among-has q l x (s .rows) (law .ordered .order) (a .by .stands))
           where
             r : Stair
             r = a .by .row
@@ -150,7 +134,7 @@ module _ (js : List Job) (b : ℕ) (x : List Seconds) (xs : List (List Seconds))
                 clash e d = false≢true (sym new ∙ covers q l (s .rows) (a .by .stands) (omega (arith, a .by .needs)) (omega (arith, a .by .loses)))
 
     step : (most : ℕ) → 1 ≤ most → Step js b x xs s (entering js most b x s)
-    step most pos = go (decLe q b) (decLt l (s .bound)) (covered q l (s .rows)) refl
+    step most pos = enter-either most pos b q l x s (law .ordered) (Step js b x xs s) takes (λ h. kept (λ fit low. by-row (h fit low)))
       where
         q : ℕ
         q = need js x .0
@@ -161,17 +145,14 @@ module _ (js : List Job) (b : ℕ) (x : List Seconds) (xs : List (List Seconds))
         by-row : Covering q l (s .rows) → Served js (s .rows) x
         by-row c = record { by = c; first = λ e d. law .not-after (c .row) (c .stands) x (List·Memᴰ·head refl) }
 
-        go : Dec (q ≤ b) → Dec (l < s .bound) → (t : Bool) → covered q l (s .rows) ≡ t → Step js b x xs s (entering js most b x s)
-        go (no over) d t e = rw (enter-over most b q l x s (omega arith)) (kept (λ fit low. absurd (over fit)))
-        go (yes fits) (no high) t e = rw (enter-bound most b q l x s (omega arith)) (kept (λ fit low. absurd (high low)))
-        go (yes fits) (yes less) true e = rw (enter-covered most b q l x s e) (kept (λ fit low. by-row (covering q l (s .rows) e)))
-        go (yes fits) (yes less) false e =
-            let one = taken fits less e in
-            let few = limited js b xs (record { rows = among q l x (s .rows); bound = s .bound }) (one .change .law) most pos in
-            rw (enter-new most b q l x s fits less e) (record {
+        takes : q ≤ b → l < s .bound → covered q l (s .rows) ≡ false → Ordered (entered q l x s) → Limited (entered q l x s) (atMost most (among q l x (s .rows)) (s .bound)) → Step js b x xs s (atMost most (among q l x (s .rows)) (s .bound))
+        takes fits less new ordered limited =
+            let one = taken fits new ordered in
+            let few = limits (one .change .law) limited in
+            record {
               change = record { law = few .law; serves = λ us h. few .serves us (one .change .serves us h) };
               here = few .serves x (one .here);
-            })
+            }
 
 -- From `had` to `after` by all the lists xs.
 record Passed (js : List Job) (b : ℕ) (xs : List (List Seconds)) (had after : Stairs) : Type 0 where
@@ -204,9 +185,8 @@ walk-collects js most b v pos = rw (walk-all multiples-lists (enter most b) noSt
   where
     none-yet : Law js b (chains (seconds 1) js) noStairs
     none-yet = record {
-      order = tt;
+      ordered = record { order = tt; bounded = λ r m. absurd (List·Memᴰ·not-nil m) };
       plans = λ r m. absurd (List·Memᴰ·not-nil m);
-      bounded = λ r m. absurd (List·Memᴰ·not-nil m);
       not-after = λ r m. absurd (List·Memᴰ·not-nil m);
       unbound = λ e. refl;
     }

@@ -103,9 +103,9 @@ no-row (x ∷ rows) e m = omega arith
 collected : (js : List Job) (b : PagesPerHour) (s : Stairs) → ValidJobs js → length js ≤ 8 → Collected js (b .0) s → AnswersUnder js b (s .rows)
 collected js b s v few c = record {
   next = answers js (b .0) (s .bound) (suc (b .0)) (s .rows) (record {
-    order = c .law .order;
+    order = c .law .ordered .order;
     plans = c .law .plans;
-    bounded = c .law .bounded;
+    bounded = c .law .ordered .bounded;
     limited = λ r m. omega (arith, c .law .plans r m .fits);
     serves = λ us h low. c .serves us h (omega arith);
   });

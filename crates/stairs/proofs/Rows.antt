@@ -1,7 +1,7 @@
 -- The rows that an array stands for: by their numbers, part by part, and after one more plan was stored.
 -- Assumes nothing.
 use mathlib.Core.Path.{_≡_, refl, sym, _∙_, ap, ap₂, subst}
-use mathlib.Core.List.{List, [], _∷_, _++_}
+use mathlib.Core.List.{List, _∷_, _++_}
 use Prim.Native.Nat.{ℕ, zero, suc, _+_, _*_, _-_, _/_, _^_, _≤_, _<_}
 use native.Mathlib.Omega.{arith}
 use native.Mathlib.Decide.{decLt}
@@ -117,16 +117,27 @@ module _ {i j e q l k : ℕ} {ps flat flat′ : List ℕ} (within : e ≤ k) (p 
   later : (a : ℕ) → i < a → i + 1 + (a - (i + 1)) ≡ a
   later a more = omega arith
 
-  -- each has n periods
-  pub between-legible : {n : ℕ} → Blank n ps → ((a : ℕ) → a < k → Legible n flat a) → (a : ℕ) → a < i + 1 + (e - j) → Legible n flat′ a
-  between-legible {n} new old a to = go (decLt a i) (decLt i a)
-    where
-      go : Dec (a < i) → Dec (i < a) → Legible n flat′ a
-      go (yes f) x = legible-same flat′ flat a a (λ m three. b .front a m f three) n (old a (let o = p .order in let u = p .upto in omega arith))
-      go (no f) (yes g) = subst (Legible n flat′) (later a g) (legible-same flat′ flat (i + 1 + (a - (i + 1))) (j + (a - (i + 1))) (λ m three. b .behind (a - (i + 1)) m (omega arith) three) n (old (j + (a - (i + 1))) (omega arith)))
-      go (no f) (no g) =
-          let is : a ≡ i = omega arith in
-          subst (Legible n flat′) (sym is) (record { blank = subst (Blank n) (sym (b .periods)) new; low-fits = b .low-fits })
+  -- each row of the new array is the plan or was a row before place e
+  module _ (from : i ≤ e) (a : ℕ) (to : a < i + 1 + (e - j)) where
+    each : (P : Type 0) → ((c : ℕ) → c < e → ((m : ℕ) → m < 3 → getD flat′ (3 * a + m) 0 ≡ getD flat (3 * c + m) 0) → P) → (a ≡ i → P) → P
+    each P old new = go (decLt a i) (decLt i a)
+      where
+        go : Dec (a < i) → Dec (i < a) → P
+        go (yes f) x = old a (omega arith) (λ m three. b .front a m f three)
+        go (no f) (yes g) = old (j + (a - (i + 1))) (omega arith) (λ m three. ap (λ (x : ℕ). getD flat′ (3 * x + m) 0) (sym (later a g)) ∙ b .behind (a - (i + 1)) m (omega arith) three)
+        go (no f) (no g) = new (omega arith)
+
+    -- each has n periods
+    pub between-legible : {n : ℕ} → Blank n ps → ((c : ℕ) → c < e → Legible n flat c) → Legible n flat′ a
+    between-legible {n} new old = each (Legible n flat′ a)
+        (λ c less same. legible-same flat′ flat a c same n (old c less))
+        (λ is. subst (Legible n flat′) (sym is) (record { blank = subst (Blank n) (sym (b .periods)) new; low-fits = b .low-fits }))
+
+    -- all lose less than a bound
+    pub between-bounded : {bound : ℕ} → l < bound → ((c : ℕ) → c < e → lossIn flat c < bound) → lossIn flat′ a < bound
+    between-bounded {bound} new old = each (lossIn flat′ a < bound)
+        (λ c less same. omega (arith, loss-same flat′ flat a c same, old c less))
+        (λ is. omega (arith, ap (lossIn flat′) is, b .its-loss))
 
   -- and they rise
   module _ (r : Rises k flat) where

@@ -139,7 +139,7 @@ pub record Place (k : ℕ) (flat : List ℕ) (q l i j : ℕ) : Type 0 where
   pub below-loss : (a : ℕ) → j ≤ a → a < k → l < lossIn flat a
   pub below-need : (a : ℕ) → j ≤ a → a < k → needIn flat a < q
 
--- Room for n periods, and a staircase of n periods each in rows and marks.
+-- Room for n periods, and a staircase of n periods each in rows and marks, below its bound.
 pub record Standing (n : ℕ) (ps flat marks : List ℕ) : Type 0 where
   pub periods : Periods ps
   pub blank : Blank n ps
@@ -147,6 +147,7 @@ pub record Standing (n : ℕ) (ps flat marks : List ℕ) : Type 0 where
   pub marks-size : length marks ≡ 2
   pub count-to : getD marks 0 0 ≤ 256
   pub rises : Rises (getD marks 0 0) flat
+  pub bounded : (a : ℕ) → a < getD marks 0 0 → lossIn flat a < getD marks 1 0
   pub legible : (a : ℕ) → a < getD marks 0 0 → Legible n flat a
 
 -- The plan stands at place i, before what stood from place j on, and at most so many rows.

@@ -246,6 +246,7 @@ fn put_plan(
 )
     requires { ⌜ Standing n (now periods) (now rows) (now marks) ⌝ }
     requires { ⌜ Place (getD (now marks) 0 0) (now rows) (need .0) loss i j ⌝ }
+    requires { ⌜ loss < getD (now marks) 1 0 ⌝ }
     ensures { λ _. ⌜ Puts n (need .0) loss i j (now (periods .entry)) (now (rows .entry)) (now (marks .entry)) (now (rows .exit)) (now (marks .exit)) ⌝ }
 {
     let count = marks[COUNT] as usize;

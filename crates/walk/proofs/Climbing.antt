@@ -11,13 +11,15 @@ use lib.Seq.{take-suc-set, take-set-le}
 use Rattle.model.specs.declared.Seconds.{Seconds}
 use Rattle.model.specs.declared.Job.{Job}
 use Rattle.model.proofs.Bounds.{mostLoss, job-loss-bound}
-use Rattle.model.specs.Model.{seconds, jobLoss}
+use Rattle.model.specs.Model.{seconds, cost, jobLoss}
 use Rattle.walk.specs.Walk.{node, next, walkBy, walk, walkFrom}
 use Rattle.walk.specs.Arrays.{HoldsJob, Held}
-use Rattle.walk.specs.Steps.{lossAt, LossFits, needAt, Later, Ready, ReadyForCut, IsLossFloor, periodsIn, ChangesNothing, Walked}
-use Rattle.model.proofs.Rounding.{round-up-above}
+use Rattle.walk.specs.Steps.{lossAt, LossFits, needAt, Repeats, Later, Ready, ReadyForCut, IsLossFloor, periodsIn, ChangesNothing, Walked}
+use Rattle.model.proofs.Rounding.{round-up-above, round-up-some}
 use Rattle.walk.proofs.Bounds.{loss-floor-bound}
+use Rattle.walk.proofs.Chains.{multiples-lists}
 use Rattle.walk.proofs.Walk.{Keeps}
+use Rattle.walk.proofs.Pageless.{Absorbs, SettledTo, settled-first, settled-more, settled-passes}
 use Rattle.walk.proofs.Loops.{loop-opens, loop-takes, loop-ends, loop-left}
 use Rattle.walk.proofs.Held.{held-open, held-none, held-next, held-valid, job-loss-fits, job-loss-is}
 use Rattle.walk.proofs.Cuts.{next-ready, next-written}
@@ -42,13 +44,14 @@ shorter i xs ys e = sym (twice i xs) ∙ ap (take i) e ∙ twice i ys
 multiple-more : (t p : ℕ) → t % p ≡ 0 → (t + p) % p ≡ 0
 multiple-more t p e = add-mod-right t p ∙ e
 
--- Before each turn: t is the multiple whose turn it is, and the walk from it up, begun with what is had, ends as the whole walk does.
+-- Before each turn: t is the multiple whose turn it is, and the walk from it up, begun with what is had, ends as the whole walk does; no completion of an earlier multiple would change what is had.
 pub record Up {A : Type 0} (f : ℕ → ℕ → List Seconds → A → A) (spans runs rates weights : List ℕ) (i n : ℕ) (step : Seconds) (written lost : ℕ) (ps₀ : List ℕ) (acc₀ : A) (ps : List ℕ) (acc : A) (t : ℕ) : Type 0 where
   pub before : take i ps ≡ take i ps₀
   pub multiple : t % step .0 ≡ 0
   pub above : getD spans i 0 ≤ t
   pub is : (j : Job) (js : List Job) → Held spans runs rates weights i n (j ∷ js) →
       walkFrom f j js (node step written lost (periodsIn i ps₀)) t acc ≡ walk f (j ∷ js) (node step written lost (periodsIn i ps₀)) acc₀
+  pub settled : (j : Job) (js : List Job) → Held spans runs rates weights i n (j ∷ js) → SettledTo f j js (node step written lost (periodsIn i ps₀)) t acc
 
 module _ {spans runs rates weights : List ℕ} {i n : ℕ} {step : Seconds} {written lost : ℕ} (r : Ready spans runs rates weights i n step written lost) {A : Type 0} {f : ℕ → ℕ → List Seconds → A → A} where
   -- the last job has its period: one plan
@@ -62,11 +65,14 @@ module _ {spans runs rates weights : List ℕ} {i n : ℕ} {step : Seconds} {wri
           rw (none, e) o
 
   pub up-starts : (less : i < n) {ps : List ℕ} {acc : A} → Up f spans runs rates weights i n step written lost ps acc ps acc ((getD spans i 0 + (step .0 - 1)) / step .0 * step .0)
-  up-starts less {ps} {acc} = record { before = refl; multiple = mul-mod-left _ _; above = round-up-above (getD spans i 0) (r .from); is = opens }
+  up-starts less {ps} {acc} = record { before = refl; multiple = mul-mod-left _ _; above = round-up-above (getD spans i 0) (r .from); is = opens; settled = none }
     where
       opens : (j : Job) (js : List Job) → Held spans runs rates weights i n (j ∷ js) →
           walkFrom f j js (node step written lost (periodsIn i ps)) ((getD spans i 0 + (step .0 - 1)) / step .0 * step .0) acc ≡ walk f (j ∷ js) (node step written lost (periodsIn i ps)) acc
       opens j js h = rw (h .jobs .0 .shortest) (sym (loop-opens f j js (node step written lost (periodsIn i ps)) acc))
+
+      none : (j : Job) (js : List Job) → Held spans runs rates weights i n (j ∷ js) → SettledTo f j js (node step written lost (periodsIn i ps)) ((getD spans i 0 + (step .0 - 1)) / step .0 * step .0) acc
+      none j js h = rw (h .jobs .0 .shortest) (settled-first f j js (node step written lost (periodsIn i ps)) acc (r .from))
 
   module _ (less : i < n) {ps₀ ps : List ℕ} {acc₀ acc : A} {t : ℕ} (u : Up f spans runs rates weights i n step written lost ps₀ acc₀ ps acc t) where
     pub up-done : getD spans (8 + i) 0 < t → Walked f spans runs rates weights i n step written lost ps₀ ps acc₀ acc
@@ -79,14 +85,16 @@ module _ {spans runs rates weights : List ℕ} {i n : ℕ} {step : Seconds} {wri
             let k : Held spans runs rates weights i n (o .job ∷ o .rest) = subst (Held spans runs rates weights i n) (o .is) h in
             rw (o .is) (sym (loop-ends f (o .job) (o .rest) p t acc (r .from) (rw (o .holds .longest) at past)) ∙ u .is (o .job) (o .rest) k)
 
--- A turn of the loop: what stands before it, and a multiple within the interval.
-pub record Turn {A : Type 0} (f : ℕ → ℕ → List Seconds → A → A) (spans runs rates weights : List ℕ) (i n : ℕ) (step : Seconds) (written lost : ℕ) (ps₀ : List ℕ) (acc₀ : A) (ps : List ℕ) (acc : A) (t : ℕ) : Type 0 where
+-- A turn of the loop: what stands before it, and a multiple within the interval; the update absorbs what it visits.
+pub record Turn {A : Type 0} (Good : A → Type 0) (f : ℕ → ℕ → List Seconds → A → A) (spans runs rates weights : List ℕ) (i n : ℕ) (step : Seconds) (written lost : ℕ) (ps₀ : List ℕ) (acc₀ : A) (ps : List ℕ) (acc : A) (t : ℕ) : Type 0 where
   pub ready : Ready spans runs rates weights i n step written lost
   pub less : i < n
   pub up : Up f spans runs rates weights i n step written lost ps₀ acc₀ ps acc t
   pub on : t ≤ getD spans (8 + i) 0
+  pub absorbs : Absorbs Good f
+  pub good : Good acc
 
-module _ {A : Type 0} {f : ℕ → ℕ → List Seconds → A → A} {spans runs rates weights : List ℕ} {i n : ℕ} {step : Seconds} {written lost : ℕ} {ps₀ ps : List ℕ} {acc₀ acc : A} {t : ℕ} (u : Turn f spans runs rates weights i n step written lost ps₀ acc₀ ps acc t) where
+module _ {A : Type 0} {Good : A → Type 0} {f : ℕ → ℕ → List Seconds → A → A} {spans runs rates weights : List ℕ} {i n : ℕ} {step : Seconds} {written lost : ℕ} {ps₀ ps : List ℕ} {acc₀ acc : A} {t : ℕ} (u : Turn Good f spans runs rates weights i n step written lost ps₀ acc₀ ps acc t) where
   -- the loss so far with this job's
   pub up-loss-fits : LossFits (getD weights i 0) (getD rates i 0) (getD runs (8 + i) 0) t
   up-loss-fits = let o = held-open (u .ready .js) (u .less) (u .ready .held) in job-loss-fits (o .holds) (seconds t) (rw (o .holds .shortest) at (u .up .above))
@@ -105,8 +113,48 @@ module _ {A : Type 0} {f : ℕ → ℕ → List Seconds → A → A} {spans runs
   pub up-written : written * (t / step .0) + getD runs i 0 ≤ 1887379200
   up-written = next-written (u .ready) (u .less) t (u .up .multiple) (u .up .above) (u .on)
 
+  -- the first multiplier that reaches the interval
+  pub up-first : 1 ≤ (getD spans i 0 + (step .0 - 1)) / step .0
+  up-first =
+      let o = held-open (u .ready .js) (u .less) (u .ready .held) in
+      let v = o .holds .valid in
+      let s = o .holds .shortest in
+      round-up-some (omega arith) (u .ready .from)
+
   pub up-cut : ReadyForCut spans rates (i + 1) n (seconds t) (written * (t / step .0) + getD runs i 0)
   up-cut = record { runs = runs; weights = weights; ready = next-ready (u .ready) (u .less) t (u .up .multiple) (u .up .above) (u .on) zero-le }
+
+  -- one turn, where the walk below this multiple takes what is had to acc′
+  turn : {ps′ : List ℕ} {acc′ : A} → take i ps′ ≡ take i ps₀ →
+      ((j : Job) (js : List Job) → Held spans runs rates weights i n (j ∷ js) → walk f js (next j (node step written lost (periodsIn i ps₀)) (seconds t)) acc ≡ acc′) →
+      Up f spans runs rates weights i n step written lost ps₀ acc₀ ps′ acc′ (t + step .0)
+  turn {ps′} {acc′} same below =
+      let a = u .up .above in
+      record { before = same; multiple = multiple-more t (step .0) (u .up .multiple); above = omega arith; is = turned; settled = more }
+    where
+      turned : (j : Job) (js : List Job) → Held spans runs rates weights i n (j ∷ js) →
+          walkFrom f j js (node step written lost (periodsIn i ps₀)) (t + step .0) acc′ ≡ walk f (j ∷ js) (node step written lost (periodsIn i ps₀)) acc₀
+      turned j js h =
+          let p = node step written lost (periodsIn i ps₀) in
+          ap (walkFrom f j js p (t + step .0)) (sym (below j js h))
+          ∙ sym (loop-takes f j js p t acc (u .ready .from) (rw (h .jobs .0 .longest) at (u .on)))
+          ∙ u .up .is j js h
+
+      more : (j : Job) (js : List Job) → Held spans runs rates weights i n (j ∷ js) → SettledTo f j js (node step written lost (periodsIn i ps₀)) (t + step .0) acc′
+      more j js h =
+          let p = node step written lost (periodsIn i ps₀) in
+          subst (SettledTo f j js p (t + step .0)) (below j js h)
+          (settled-more f j js p acc (u .ready .from) (held-valid js (held-next j js h)) t (up-later .from) (u .up .multiple) (u .up .settled j js h) (u .absorbs) (u .good) multiples-lists)
+
+  -- without pages, and at a multiple of an earlier multiple: nothing here that was not had there
+  pub up-pass : Repeats runs i (t / step .0) ((getD spans i 0 + (step .0 - 1)) / step .0) → Up f spans runs rates weights i n step written lost ps₀ acc₀ ps acc (t + step .0)
+  up-pass repeats = turn (u .up .before) below
+    where
+      below : (j : Job) (js : List Job) → Held spans runs rates weights i n (j ∷ js) → walk f js (next j (node step written lost (periodsIn i ps₀)) (seconds t)) acc ≡ acc
+      below j js h =
+          let idle : cost j ≡ 0 = sym (h .jobs .0 .for-need) ∙ repeats .for-need in
+          let passed = repeats .passed in
+          settled-passes f j js (node step written lost (periodsIn i ps₀)) acc (u .ready .from) (held-valid js (held-next j js h)) t (up-later .from) (u .up .multiple) (u .up .settled j js h) idle (rw (h .jobs .0 .shortest) at passed) multiples-lists
 
   module _ {x : ℕ} (own : x ≡ lossAt (getD weights i 0) (getD rates i 0) (getD runs (8 + i) 0) t) where
     pub up-lost : lost + x ≤ mostLoss * (i + 1)
@@ -145,22 +193,6 @@ module _ {A : Type 0} {f : ℕ → ℕ → List Seconds → A → A} {spans runs
               let pos = up-later .from in
               let stays : walkFrom f (o .job) (o .rest) p t acc ≡ acc = loop-left f (o .job) (o .rest) p t (lost + x + low) acc (held-valid (o .rest) (o .later)) pos (omega arith) keeps in
               rw (o .is) (sym stays ∙ u .up .is (o .job) (o .rest) k)
-
-      -- one turn, where the walk below this multiple takes what is had to acc′
-      turn : {ps′ : List ℕ} {acc′ : A} → take i ps′ ≡ take i ps₀ →
-          ((j : Job) (js : List Job) → Held spans runs rates weights i n (j ∷ js) → walk f js (next j (node step written lost (periodsIn i ps₀)) (seconds t)) acc ≡ acc′) →
-          Up f spans runs rates weights i n step written lost ps₀ acc₀ ps′ acc′ (t + step .0)
-      turn {ps′} {acc′} same below =
-          let a = u .up .above in
-          record { before = same; multiple = multiple-more t (step .0) (u .up .multiple); above = omega arith; is = turned }
-        where
-          turned : (j : Job) (js : List Job) → Held spans runs rates weights i n (j ∷ js) →
-              walkFrom f j js (node step written lost (periodsIn i ps₀)) (t + step .0) acc′ ≡ walk f (j ∷ js) (node step written lost (periodsIn i ps₀)) acc₀
-          turned j js h =
-              let p = node step written lost (periodsIn i ps₀) in
-              ap (walkFrom f j js p (t + step .0)) (sym (below j js h))
-              ∙ sym (loop-takes f j js p t acc (u .ready .from) (rw (h .jobs .0 .longest) at (u .on)))
-              ∙ u .up .is j js h
 
       pub up-skip : ChangesNothing f spans rates (i + 1) n (seconds t) (written * (t / step .0) + getD runs i 0) (lost + x + low) acc →
           Up f spans runs rates weights i n step written lost ps₀ acc₀ ps acc (t + step .0)

@@ -1,21 +1,21 @@
 -- A job without pages adds nothing to need and loss: what completes its period t completes a shorter one that divides t, at the same need and loss.
 -- So where an update keeps what it has against the completions of the shorter one, the longer one can be passed over.
 -- Assumes nothing.
-use mathlib.Core.Path.{_≡_, refl, sym, _∙_, ap, ap₂, subst}
+use mathlib.Core.Path.{_≡_, sym, _∙_, ap, ap₂, subst}
 use mathlib.Core.Logic.{⊎-elim}
 use mathlib.Core.List.{List, [], _∷_, _++_, List·Memᴰ, List·Memᴰ·not-nil, List·Memᴰ·cases-cons}
 use Prim.Native.Nat.{ℕ, zero, suc, _+_, _*_, _-_, _/_, _%_, _^_, _≤_, _<_}
 use native.Mathlib.Omega.{arith}
-use native.Mathlib.Nat.{le-refl, le-trans, le-antisymm, mul-mod-left, mul-assoc, le-of-mul-le-mul-right, mul-le-mul-right, mul-lt-mul-of-pos-right, lt-of-mul-lt-mul-right, mul-zero, zero-div}
+use native.Mathlib.Nat.{le-refl, le-antisymm, mul-mod-left, mul-mod-right, mod-one, mul-assoc, mul-le-mul-left, le-of-mul-le-mul-right, mul-le-mul-right, mul-lt-mul-of-pos-right, lt-of-mul-lt-mul-right, mul-zero, zero-div}
 use native.Mathlib.Decide.{ℕ-discrete}
 use Rattle.model.specs.declared.Seconds.{Seconds}
 use Rattle.model.specs.declared.Job.{Job}
-use Rattle.model.specs.Model.{seconds, cost, ValidJob, ValidJobs, PermittedAfter, lastOf, roundUp, rate, jobLoss, loss}
+use Rattle.model.specs.Model.{seconds, cost, ValidJobs, PermittedAfter, lastOf, roundUp, rate, jobLoss, loss}
 use Rattle.walk.specs.Chains.{chainsBy}
 use Rattle.walk.specs.Walk.{pagesAfter, needAfter, visit, Node, next, walkBy}
-use Rattle.walk.specs.Steps.{Repeats}
+use Rattle.walk.specs.Steps.{PassedOver}
 use Rattle.model.proofs.Rounding.{round-up-le, round-up-above, multiple-is}
-use Rattle.walk.proofs.Chains.{ListsAllowed, chains-only, chains-all}
+use Rattle.walk.proofs.Chains.{ListsAllowed, chains-all}
 use Rattle.walk.proofs.Pages.{multiple-trans, quotient-trans}
 use Rattle.walk.proofs.Walk.{atPlan, walk-visits, walk-kept}
 
@@ -24,6 +24,16 @@ factors : (a b : ℕ) {c : ℕ} → 1 ≤ c → c ≡ a * b → (1 ≤ a) × (1 
 factors zero b h e = absurd (omega arith)
 factors (suc a) zero h e = let z = mul-zero (suc a) in absurd (omega arith)
 factors (suc a) (suc b) h e = (omega arith, omega arith)
+
+-- a number above 1 repeats 1; one with a factor repeats the other factor
+pub one-passes : {a : ℕ} → 1 < a → PassedOver a 1
+one-passes {a} h = (1, le-refl 1, h, mod-one a)
+
+pub factor-passes : (a p first : ℕ) → 1 ≤ first → 2 ≤ p → first ≤ a / p → a % p ≡ 0 → PassedOver a first
+factor-passes a p first some two reached multiple =
+    let is : a ≡ a / p * p = multiple-is a p multiple in
+    let more : a / p * 2 ≤ a / p * p = mul-le-mul-left (a / p) two in
+    (a / p, reached, omega arith, ap (λ (x : ℕ). x % (a / p)) is ∙ mul-mod-right (a / p) p)
 
 -- a fraction is rounded up alike in whatever terms
 round-up-scaled : (a b k : ℕ) → 1 ≤ b → 1 ≤ k → roundUp (a * k) (k * b) ≡ roundUp a b
@@ -88,9 +98,11 @@ abbrev pub Settled : {A : Type 0} → (ℕ → ℕ → List Seconds → A → A)
 Settled f js n s = (ts : List Seconds) → PermittedAfter (n .before) js ts → Unmoved f s (needAfter (n .pages) (n .before) js ts) (n .lost + loss js ts)
 
 -- An update that a plan's visit settles, whatever else is visited later: plans of the same need and loss change nothing more.
-pub record Absorbs {A : Type 0} (f : ℕ → ℕ → List Seconds → A → A) : Type 0 where
-  pub after : (q l : ℕ) (ts : List Seconds) (s : A) → Unmoved f (f q l ts s) q l
-  pub stays : (q l q′ l′ : ℕ) (ts : List Seconds) (s : A) → Unmoved f s q l → Unmoved f (f q′ l′ ts s) q l
+-- It may ask that what is had be good, and keeps it so.
+pub record Absorbs {A : Type 0} (Good : A → Type 0) (f : ℕ → ℕ → List Seconds → A → A) : Type 0 where
+  pub good : (q l : ℕ) (ts : List Seconds) (s : A) → Good s → Good (f q l ts s)
+  pub after : (q l : ℕ) (ts : List Seconds) (s : A) → Good s → Unmoved f (f q l ts s) q l
+  pub stays : (q l q′ l′ : ℕ) (ts : List Seconds) (s : A) → Good s → Unmoved f s q l → Unmoved f (f q′ l′ ts s) q l
 
 -- u and t are multiples of the period before, and t of u: a job without pages at u takes every completion that it has at t
 module _ {order : Seconds → Job → List Seconds} (law : ListsAllowed order) {A : Type 0} (f : ℕ → ℕ → List Seconds → A → A) (s : A) (j : Job) (js : List Job) (n : Node) (u t : Seconds) where
@@ -113,35 +125,38 @@ module _ {order : Seconds → Job → List Seconds} (law : ListsAllowed order) {
           ap₂ (λ (q l : ℕ). f q (n .lost + l + loss js ts) ((n .periods ++ (t ∷ [])) ++ ts) s) (need-same ts h) (pageless-loss j t u none)
           ∙ settled ts (permitted-after-divisor u t u-pos t-pos t-multiple js ts h) ((n .periods ++ (t ∷ [])) ++ ts)
 
-module _ {A : Type 0} {f : ℕ → ℕ → List Seconds → A → A} (a : Absorbs f) where
+module _ {A : Type 0} {Good : A → Type 0} {f : ℕ → ℕ → List Seconds → A → A} (a : Absorbs Good f) where
   -- through a visit of plans, what is unmoved stays so, and each plan is settled
-  visit-stays : (js : List Job) (n : Node) (s : A) (tss : List (List Seconds)) {q l : ℕ} → Unmoved f s q l → Unmoved f (visit (atPlan f js n) s tss) q l
+  visit-stays : (js : List Job) (n : Node) (s : A) (tss : List (List Seconds)) → Good s → {q l : ℕ} → Unmoved f s q l → Unmoved f (visit (atPlan f js n) s tss) q l
   unfolding visit atPlan
-  visit-stays js n s [] h = h
-  visit-stays js n s (ts ∷ tss) h = visit-stays js n (atPlan f js n ts s) tss (a .stays _ _ _ _ (n .periods ++ ts) s h)
+  visit-stays js n s [] g h = h
+  visit-stays js n s (ts ∷ tss) g h = visit-stays js n (atPlan f js n ts s) tss (a .good _ _ (n .periods ++ ts) s g) (a .stays _ _ _ _ (n .periods ++ ts) s g h)
 
-  visit-settles : (js : List Job) (n : Node) (s : A) (tss : List (List Seconds)) (ts : List Seconds) → List·Memᴰ ts tss →
+  visit-settles : (js : List Job) (n : Node) (s : A) (tss : List (List Seconds)) → Good s → (ts : List Seconds) → List·Memᴰ ts tss →
       Unmoved f (visit (atPlan f js n) s tss) (needAfter (n .pages) (n .before) js ts) (n .lost + loss js ts)
   unfolding visit atPlan
-  visit-settles js n s [] ts m = absurd (List·Memᴰ·not-nil m)
-  visit-settles js n s (us ∷ tss) ts m = ⊎-elim here (λ k. visit-settles js n (atPlan f js n us s) tss ts k) (List·Memᴰ·cases-cons m)
+  visit-settles js n s [] g ts m = absurd (List·Memᴰ·not-nil m)
+  visit-settles js n s (us ∷ tss) g ts m = ⊎-elim here (λ k. visit-settles js n (atPlan f js n us s) tss next-good ts k) (List·Memᴰ·cases-cons m)
     where
+      next-good : Good (atPlan f js n us s)
+      next-good = a .good (needAfter (n .pages) (n .before) js us) (n .lost + loss js us) (n .periods ++ us) s g
+
       at : Unmoved f (atPlan f js n us s) (needAfter (n .pages) (n .before) js us) (n .lost + loss js us)
-      at = a .after (needAfter (n .pages) (n .before) js us) (n .lost + loss js us) (n .periods ++ us) s
+      at = a .after (needAfter (n .pages) (n .before) js us) (n .lost + loss js us) (n .periods ++ us) s g
 
       here : ts ≡ us → Unmoved f (visit (atPlan f js n) (atPlan f js n us s) tss) (needAfter (n .pages) (n .before) js ts) (n .lost + loss js ts)
-      here e = rw e (visit-stays js n (atPlan f js n us s) tss at)
+      here e = rw e (visit-stays js n (atPlan f js n us s) tss next-good at)
 
-  module _ {order : Seconds → Job → List Seconds} (law : ListsAllowed order) where
+  module _ {order : Seconds → Job → List Seconds} (law : ListsAllowed order) (js : List Job) (n : Node) (s : A) (g : Good s) where
     -- what is unmoved stays so through a walk
-    pub walk-stays : (js : List Job) (n : Node) (s : A) {q l : ℕ} → Unmoved f s q l → Unmoved f (walkBy order f js n s) q l
-    walk-stays js n s {q} {l} h = subst (λ (r : A). Unmoved f r q l) (sym (walk-visits order f js n s)) (visit-stays js n s (chainsBy order (n .before) js) h)
+    pub walk-stays : {q l : ℕ} → Unmoved f s q l → Unmoved f (walkBy order f js n s) q l
+    walk-stays {q} {l} h = subst (λ (r : A). Unmoved f r q l) (sym (walk-visits order f js n s)) (visit-stays js n s (chainsBy order (n .before) js) g h)
 
     -- a walk settles its node
-    pub walk-settles : (js : List Job) (n : Node) (s : A) → ValidJobs js → 1 ≤ n .before .0 → Settled f js n (walkBy order f js n s)
-    walk-settles js n s v pos ts h =
+    pub walk-settles : ValidJobs js → 1 ≤ n .before .0 → Settled f js n (walkBy order f js n s)
+    walk-settles v pos ts h =
         subst (λ (r : A). Unmoved f r (needAfter (n .pages) (n .before) js ts) (n .lost + loss js ts)) (sym (walk-visits order f js n s))
-        (visit-settles js n s (chainsBy order (n .before) js) ts (chains-all law js ts v pos h))
+        (visit-settles js n s (chainsBy order (n .before) js) g ts (chains-all law js ts v pos h))
 
 -- Before the turn of t in the loop over a job's multiples: each one before t is settled.
 abbrev pub SettledTo : {A : Type 0} → (ℕ → ℕ → List Seconds → A → A) → Job → List Job → Node → ℕ → A → Type 0
@@ -159,11 +174,11 @@ module _ {A : Type 0} (f : ℕ → ℕ → List Seconds → A → A) (j : Job) (
 
   module _ (v : ValidJobs js) (t : ℕ) (t-pos : 1 ≤ t) (multiple : t % n .before .0 ≡ 0) (to : SettledTo f j js n t s) where
     -- the walk below t settles t too
-    pub settled-more : Absorbs f → {order : Seconds → Job → List Seconds} → ListsAllowed order → SettledTo f j js n (t + n .before .0) (walkBy order f js (next j n (seconds t)) s)
-    settled-more a {order} law u u-multiple above less = which (ℕ-discrete u t)
+    pub settled-more : {Good : A → Type 0} → Absorbs Good f → Good s → {order : Seconds → Job → List Seconds} → ListsAllowed order → SettledTo f j js n (t + n .before .0) (walkBy order f js (next j n (seconds t)) s)
+    settled-more a g {order} law u u-multiple above less = which (ℕ-discrete u t)
       where
         here : u ≡ t → Settled f js (next j n (seconds u)) (walkBy order f js (next j n (seconds t)) s)
-        here e = rw e (walk-settles a law js (next j n (seconds t)) s v t-pos)
+        here e = rw e (walk-settles a law js (next j n (seconds t)) s g v t-pos)
 
         earlier : (u ≡ t → ⊥) → Settled f js (next j n (seconds u)) (walkBy order f js (next j n (seconds t)) s)
         earlier other ts h =
@@ -172,14 +187,14 @@ module _ {A : Type 0} (f : ℕ → ℕ → List Seconds → A → A) (j : Job) (
             let t-is : t ≡ t / p * p = multiple-is t p multiple in
             let k : u / p < suc (t / p) = lt-of-mul-lt-mul-right p (omega arith) in
             let m : u / p * p ≤ t / p * p = mul-le-mul-right p (omega arith) in
-            walk-stays a law js (next j n (seconds t)) s (to u u-multiple above (omega arith) ts h)
+            walk-stays a law js (next j n (seconds t)) s g (to u u-multiple above (omega arith) ts h)
 
         which : Dec (u ≡ t) → Settled f js (next j n (seconds u)) (walkBy order f js (next j n (seconds t)) s)
         which (yes e) = here e
         which (no other) = earlier other
 
     -- a multiplier that repeats an earlier one, for a job without pages
-    pub settled-passes : cost j ≡ 0 → Repeats (t / n .before .0) (roundUp (j .lo .0) (n .before .0)) → {order : Seconds → Job → List Seconds} → ListsAllowed order → walkBy order f js (next j n (seconds t)) s ≡ s
+    pub settled-passes : cost j ≡ 0 → PassedOver (t / n .before .0) (roundUp (j .lo .0) (n .before .0)) → {order : Seconds → Job → List Seconds} → ListsAllowed order → walkBy order f js (next j n (seconds t)) s ≡ s
     settled-passes none r law =
         let p = n .before .0 in
         let a = t / p in

@@ -43,8 +43,14 @@ abbrev pub Unreached : List ℕ → ℕ → ℕ → Seconds → Type 0
 Unreached spans i n t = (k : ℕ) × (i ≤ k) × (k < n) × (getD spans (8 + k) 0 / t .0 * t .0 < getD spans k 0)
 
 -- Some multiplier from `first` on, below a, divides a.
-abbrev pub Repeats : ℕ → ℕ → Type 0
-Repeats a first = (d : ℕ) × (first ≤ d) × (d < a) × (a % d ≡ 0)
+abbrev pub PassedOver : ℕ → ℕ → Type 0
+PassedOver a first = (d : ℕ) × (first ≤ d) × (d < a) × (a % d ≡ 0)
+
+-- The job at place i has no pages for need and none for loss, so at multiplier a it repeats what it had at a smaller one.
+pub record Repeats (runs : List ℕ) (i a first : ℕ) : Type 0 where
+  pub for-need : getD runs i 0 ≡ 0
+  pub for-loss : getD runs (8 + i) 0 ≡ 0
+  pub passed : PassedOver a first
 
 module _ (spans runs rates weights : List ℕ) where
   -- Some jobs are so held, and t is a period.

@@ -9,11 +9,11 @@ use model::PagesPerHour;
 use model::Profile;
 use model::Seconds;
 ghost use mathlib.Core.Path.{_≡_};
-ghost use mathlib.Core.Bool.{false};
-ghost use Prim.Native.Nat.{max};
+ghost use mathlib.Core.Bool.{true, false};
+ghost use Prim.Native.Nat.{_≤_, _<_, max};
 ghost use Rattle.model.specs.Model.{pagesPerHour, cost, Valid, ValidJob};
 ghost use Rattle.walk.specs.Arrays.{SecondsFrom, PagesFrom, RatesFrom, StiffnessesFrom};
-ghost use Rattle.walk.specs.Steps.{lossAt, LossFits, needAt, NeedFits, Ends, Unreached, Later, IsLossFloor};
+ghost use Rattle.walk.specs.Steps.{lossAt, LossFits, needAt, NeedFits, Ends, Unreached, PassedOver, Repeats, Later, IsLossFloor};
 
 // The shortest periods of the jobs, then the longest.
 pub fn seconds_of(p: Profile) -> [u32; 16]
@@ -140,6 +140,40 @@ pub fn reaches(seconds: &[u32; 16], i: usize, n: usize, t: Seconds) -> bool
         k += 1;
     }
     true
+}
+
+// Whether job i, which `first` times the period before is the first to reach, can be passed over at `a` times that: it has
+// no pages, so a smaller multiplier that divides a takes every completion at the same need and loss.
+pub fn repeats(pages: &[u32; 16], i: usize, a: u32, first: u32) -> bool
+    requires { ⌜ i < 8 ⌝ }
+    requires { ⌜ 1 ≤ first ⌝ }
+    ensures { λ r. ⌜ (r ≡ true → Repeats (now (pages .entry)) i a first) ⌝ }
+{
+    if pages[i] != 0 {
+        return false;
+    }
+    if pages[8 + i] != 0 {
+        return false;
+    }
+    passed_over(a, first)
+}
+
+// Whether some number from `first` on, below a, divides a: the largest that divides a is a by its smallest factor.
+fn passed_over(a: u32, first: u32) -> bool
+    requires { ⌜ 1 ≤ first ⌝ }
+    ensures { λ r. ⌜ (r ≡ true → PassedOver a first) ⌝ }
+{
+    if first == 1 {
+        return 1 < a;
+    }
+    let mut p: u32 = 2;
+    while first <= a / p {
+        if a % p == 0 {
+            return true;
+        }
+        p += 1;
+    }
+    false
 }
 
 // The need of a plan that writes so many pages in t seconds.

@@ -8,7 +8,8 @@ use Rattle.walk.proofs.Climbing.{Up, Turn, up-leaf, up-starts, up-done, up-loss
 use Rattle.stairs.specs.Stairs.{enter}
 use Rattle.stairs.specs.Rows.{most, stairsOf, Standing}
 use Rattle.stairs.proofs.Updates.{keeps-bound}
-use Rattle.stairs.proofs.Climbing.{period-set}
+use Rattle.stairs.proofs.Ordered.{Ordered, enter-absorbs}
+use Rattle.stairs.proofs.Climbing.{standing-ordered, period-set}
 use borrow.Author.Needs.{needs}
 use native.Mathlib.Omega.{arith}
 use borrow.Fn.Kinds.{In}
@@ -137,12 +138,12 @@ abbrev Known : (t : ℕ) → find-stairs-lts.In-loop (claims t) (given t) find-s
 Known t c =
     let l = c .before .loop in
     let a = c .before .before .before .before .before .before .before .before .before .args in
-    Turn (enter most (a .budget .0)) (a .seconds .now) (a .pages .now) (a .rates .now) (a .stiffnesses .now) (a .i) (a .n) (a .step) (a .written) (a .lost) (a .periods .now) (stairsOf (a .n) (a .rows .now) (a .marks .now)) (l .periods) (stairsOf (a .n) (l .rows) (l .marks)) (l .t)
+    Turn Ordered (enter most (a .budget .0)) (a .seconds .now) (a .pages .now) (a .rates .now) (a .stiffnesses .now) (a .i) (a .n) (a .step) (a .written) (a .lost) (a .periods .now) (stairsOf (a .n) (a .rows .now) (a .marks .now)) (l .periods) (stairsOf (a .n) (l .rows) (l .marks)) (l .t)
 
 facts : (t : ℕ) (c : find-stairs-lts.In-loop (claims t) (given t) find-stairs.Post Inv-loop μ-loop) → Known t c
 facts t c =
     let r = c .before .before .before .before .before .before .before .before .before .pre .1 .0 in
-    record { ready = r; less = ready-more r (c .before .before .before .before .before .before .before .before .if1 .left); up = c .before .loop .inv .1; on = c .loop-test .taken }
+    record { ready = r; less = ready-more r (c .before .before .before .before .before .before .before .before .if1 .left); up = c .before .loop .inv .1; on = c .loop-test .taken; absorbs = enter-absorbs most _ (omega arith); good = standing-ordered (c .before .loop .inv .0) }
 
 job-loss-requires : (t : ℕ) → find-stairs-lts.Need-job-loss-requires (claims t) (given t) find-stairs.Post Inv-loop μ-loop
 job-loss-requires t c κs =

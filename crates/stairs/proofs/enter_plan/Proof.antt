@@ -42,7 +42,7 @@ needing-less-requires c κs = search needs
 put-plan-requires : tie.Need-put-plan-requires
 put-plan-requires c κs =
     let s = c .before .before .before .before .before .before .before .before .before .before .before .before .before .before .before .before .pre .1 .1 in
-    (s, placed (s .rises) (c .before .before .before .before .before .before .before .covers .ensures) (c .before .before .before .before .before .before .if3 .left) (c .before .before .before .before .losing-less .ensures) (c .before .before .needing-less .ensures))
+    (s, (placed (s .rises) (c .before .before .before .before .before .before .before .covers .ensures) (c .before .before .before .before .before .before .if3 .left) (c .before .before .before .before .losing-less .ensures) (c .before .before .needing-less .ensures), omega (arith, c .before .before .before .before .before .before .before .before .before .before .if2 .left)))
 
 returns-4 : tie.Need-returns-4
 returns-4 c =

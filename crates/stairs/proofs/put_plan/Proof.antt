@@ -34,8 +34,8 @@ returns : tie.Need-returns
 returns c =
     let p = c .before .before .before .before .before .before .pre in
     let order : getD (c .before .before .before .before .before .before .args .marks .now) 0 0 ≤ 256 = p .0 .count-to in
-    let upto = p .1 .upto in
-    puts-within (p .0) (p .1) (omega (arith, c .before .before .before .before .if1 .taken)) refl (c .before .before .close-gap .ensures) (c .store-row .ensures)
+    let upto = p .1 .0 .upto in
+    puts-within (p .0) (p .1 .0) (p .1 .1) (omega (arith, c .before .before .before .before .if1 .taken)) refl (c .before .before .close-gap .ensures) (c .store-row .ensures)
 
 open-gap-requires : tie.Need-open-gap-requires
 open-gap-requires c κs = search needs
@@ -52,8 +52,8 @@ element-write-marks-2 c = search needs
 returns-2 : tie.Need-returns-2
 returns-2 c =
     let p = c .before .before .before .before .before .before .before .pre in
-    let order = p .1 .order in
-    puts-more (p .0) (p .1) (omega (arith, c .before .before .before .before .before .if1 .left)) (c .before .before .before .before .if2 .taken) (c .before .before .open-gap .ensures) (c .store-row2 .ensures)
+    let order = p .1 .0 .order in
+    puts-more (p .0) (p .1 .0) (p .1 .1) (omega (arith, c .before .before .before .before .before .if1 .left)) (c .before .before .before .before .if2 .taken) (c .before .before .open-gap .ensures) (c .store-row2 .ensures)
 
 element-write-marks-3 : tie.Need-element-write-marks-3
 element-write-marks-3 c = search needs
@@ -61,9 +61,9 @@ element-write-marks-3 c = search needs
 returns-3 : tie.Need-returns-3
 returns-3 c =
     let p = c .before .before .before .before .pre in
-    let order = p .1 .order in
+    let order = p .1 .0 .order in
     let most = p .0 .count-to in
-    puts-past (p .0) (p .1) (omega (arith, c .before .if2 .left)) (omega (arith, c .before .before .if1 .left)) (c .if3 .taken)
+    puts-past (p .0) (p .1 .0) (p .1 .1) (omega (arith, c .before .if2 .left)) (omega (arith, c .before .before .if1 .left)) (c .if3 .taken)
 
 element-copy-out-marks : tie.Need-element-copy-out-marks
 element-copy-out-marks c = search needs
@@ -83,11 +83,11 @@ store-row-requires-3 c κs = search needs
 returns-4 : tie.Need-returns-4
 returns-4 c =
     let p = c .before .before .before .before .before .before .before .before .before .pre in
-    let order = p .1 .order in
-    let upto = p .1 .upto in
+    let order = p .1 .0 .order in
+    let upto = p .1 .0 .upto in
     let most = p .0 .count-to in
     let apart = c .before .before .before .before .before .if3 .left in
-    puts-crowded (p .0) (p .1) (omega (arith, c .before .before .before .before .before .before .if2 .left)) (omega (arith, c .before .before .before .before .before .before .before .if1 .left)) (omega arith) (c .before .before .open-gap2 .ensures) (c .store-row3 .ensures)
+    puts-crowded (p .0) (p .1 .0) (p .1 .1) (omega (arith, c .before .before .before .before .before .before .if2 .left)) (omega (arith, c .before .before .before .before .before .before .before .if1 .left)) (omega arith) (c .before .before .open-gap2 .ensures) (c .store-row3 .ensures)
 
 pub put-plan-spec : {M : Type 1} → statement M
 put-plan-spec =
