@@ -121,7 +121,8 @@ fn find_stairs(
     let lo = seconds[i];
     let hi = seconds[8 + i];
     let own = pages[i] as u64;
-    let mut t = (lo + (step.0 - 1)) / step.0 * step.0;
+    let first = (lo + (step.0 - 1)) / step.0;
+    let mut t = first * step.0;
     while t <= hi {
         let here = lost
             + walk::job_loss(
@@ -135,8 +136,13 @@ fn find_stairs(
         if marks[BOUND] <= floor {
             return;
         }
-        let more = written * ((t / step.0) as u64) + own;
+        let a = t / step.0;
         let next = t + step.0;
+        if walk::repeats(pages, i, a, first) {
+            t = next;
+            continue;
+        }
+        let more = written * (a as u64) + own;
         if may_enter(
             seconds,
             rates,

@@ -4,7 +4,7 @@ use Prim.Native.Nat.{ℕ, _<_, _+_, _-_}
 use native.Mathlib.Nat.{div-le-self, div-mul-le-self}
 use lib.ListN.{getD}
 use Rattle.walk.proofs.Cuts.{ready-more, ready-shortest, ready-longest, ready-own, ready-need}
-use Rattle.walk.proofs.Climbing.{Up, Turn, up-leaf, up-starts, up-done, up-loss-fits, up-later, up-written, up-cut, up-lost, up-next, up-floor, up-left, up-skip, up-turn}
+use Rattle.walk.proofs.Climbing.{Up, Turn, up-leaf, up-starts, up-done, up-loss-fits, up-later, up-written, up-first, up-cut, up-lost, up-next, up-floor, up-left, up-pass, up-skip, up-turn}
 use Rattle.stairs.specs.Stairs.{enter}
 use Rattle.stairs.specs.Rows.{most, stairsOf, Standing}
 use Rattle.stairs.proofs.Updates.{keeps-bound}
@@ -21,6 +21,7 @@ use Rattle.stairs.proofs.enter_plan.Reads as enter-plan-reads
 use Rattle.stairs.proofs.may_enter.Reads as may-enter-reads
 use Rattle.walk.proofs.job_loss.Reads as job-loss-reads
 use Rattle.walk.proofs.loss_floor.Reads as loss-floor-reads
+use Rattle.walk.proofs.repeats.Reads as repeats-reads
 use Rattle.stairs.proofs.+find_stairs.{statement}
 use Rattle.stairs.proofs.+find_stairs.Tie.{close}
 
@@ -36,14 +37,14 @@ asked t =
 
 -- what each call asks and tells
 abbrev claims : ℕ → find-stairs-lts.Claims
-claims t = (enter-plan-reads.Asked, enter-plan-reads.Learnt, job-loss-reads.Asked, job-loss-reads.Learnt, loss-floor-reads.Asked, loss-floor-reads.Learnt, may-enter-reads.Asked, may-enter-reads.Learnt, asked t, find-stairs.Post)
+claims t = (enter-plan-reads.Asked, enter-plan-reads.Learnt, job-loss-reads.Asked, job-loss-reads.Learnt, loss-floor-reads.Asked, loss-floor-reads.Learnt, repeats-reads.Asked, repeats-reads.Learnt, may-enter-reads.Asked, may-enter-reads.Learnt, asked t, find-stairs.Post)
 
 abbrev Inv-loop : find-stairs-lts.InvT-loop
-Inv-loop seconds pages rates stiffnesses i n budget step written lost periods₀ rows₀ marks₀ lo hi own t₀ periods rows marks t =
+Inv-loop seconds pages rates stiffnesses i n budget step written lost periods₀ rows₀ marks₀ lo hi own first t₀ periods rows marks t =
     Standing n periods rows marks × Up (enter most (budget .0)) seconds pages rates stiffnesses i n step written lost periods₀ (stairsOf n rows₀ marks₀) periods (stairsOf n rows marks) t
 
 abbrev μ-loop : find-stairs-lts.MeasureT-loop
-μ-loop seconds pages rates stiffnesses i n budget step written lost periods₀ rows₀ marks₀ lo hi own t₀ periods rows marks t = hi + 1 - t
+μ-loop seconds pages rates stiffnesses i n budget step written lost periods₀ rows₀ marks₀ lo hi own first t₀ periods rows marks t = hi + 1 - t
 
 enter-plan-requires : (t : ℕ) → find-stairs-lts.Need-enter-plan-requires (claims t) (given t) find-stairs.Post Inv-loop μ-loop
 enter-plan-requires t c κs =
@@ -85,18 +86,18 @@ cast-own t c =
     let less = ready-more r (c .before .before .before .if1 .left) in
     omega (arith, ready-own r less)
 
-sub-t : (t : ℕ) → find-stairs-lts.Need-sub-t (claims t) (given t) find-stairs.Post Inv-loop μ-loop
-sub-t t c = search needs
+sub-first : (t : ℕ) → find-stairs-lts.Need-sub-first (claims t) (given t) find-stairs.Post Inv-loop μ-loop
+sub-first t c = search needs
 
-add-t : (t : ℕ) → find-stairs-lts.Need-add-t (claims t) (given t) find-stairs.Post Inv-loop μ-loop
-add-t t c =
+add-first : (t : ℕ) → find-stairs-lts.Need-add-first (claims t) (given t) find-stairs.Post Inv-loop μ-loop
+add-first t c =
     let s = c .before .before .before .before .before in
     let r = s .pre .1 .0 in
     let less = ready-more r (c .before .before .before .before .if1 .left) in
     omega (arith, ready-shortest r less, r .from, r .to)
 
-div-t : (t : ℕ) → find-stairs-lts.Need-div-t (claims t) (given t) find-stairs.Post Inv-loop μ-loop
-div-t t c = search needs
+div-first : (t : ℕ) → find-stairs-lts.Need-div-first (claims t) (given t) find-stairs.Post Inv-loop μ-loop
+div-first t c = search needs
 
 mul-t : (t : ℕ) → find-stairs-lts.Need-mul-t (claims t) (given t) find-stairs.Post Inv-loop μ-loop
 mul-t t c =
@@ -118,11 +119,11 @@ mul-job-loss t c = search needs
 element-copy-out-job-loss : (t : ℕ) → find-stairs-lts.Need-element-copy-out-job-loss (claims t) (given t) find-stairs.Post Inv-loop μ-loop
 element-copy-out-job-loss t c = search needs
 
-mul-t44 : (t : ℕ) → find-stairs-lts.Need-mul-t44 (claims t) (given t) find-stairs.Post Inv-loop μ-loop
-mul-t44 t c = search needs
+mul-t45 : (t : ℕ) → find-stairs-lts.Need-mul-t45 (claims t) (given t) find-stairs.Post Inv-loop μ-loop
+mul-t45 t c = search needs
 
-element-copy-out-t47 : (t : ℕ) → find-stairs-lts.Need-element-copy-out-t47 (claims t) (given t) find-stairs.Post Inv-loop μ-loop
-element-copy-out-t47 t c = search needs
+element-copy-out-t48 : (t : ℕ) → find-stairs-lts.Need-element-copy-out-t48 (claims t) (given t) find-stairs.Post Inv-loop μ-loop
+element-copy-out-t48 t c = search needs
 
 add-job-loss : (t : ℕ) → find-stairs-lts.Need-add-job-loss (claims t) (given t) find-stairs.Post Inv-loop μ-loop
 add-job-loss t c = search needs
@@ -177,84 +178,93 @@ returns-2 t c =
     let l = c .before .before .before .before .before .before .before .before .loop in
     record { stands = l .inv .0; walked = up-left u (c .before .before .before .job-loss .ensures) (c .before .before .loss-floor .ensures) (keeps-bound most (c .before .before .before .before .before .before .before .before .before .before .before .before .before .before .before .before .args .budget .0) (stairsOf (c .before .before .before .before .before .before .before .before .before .before .before .before .before .before .before .before .args .n) (l .rows) (l .marks)) (omega (arith, c .if2 .taken))) }
 
-div-more : (t : ℕ) → find-stairs-lts.Need-div-more (claims t) (given t) find-stairs.Post Inv-loop μ-loop
-div-more t c = search needs
-
-cast-more : (t : ℕ) → find-stairs-lts.Need-cast-more (claims t) (given t) find-stairs.Post Inv-loop μ-loop
-cast-more t c =
-    let u = facts t (c .before .before .before .before .before .before .before .before) in
-    omega (arith, u .on, ready-longest (u .ready) (u .less), div-le-self (c .before .before .before .before .before .before .before .before .before .loop .t) (c .before .before .before .before .before .before .before .before .before .before .before .before .before .before .before .before .before .args .step .0))
-
-mul-more : (t : ℕ) → find-stairs-lts.Need-mul-more (claims t) (given t) find-stairs.Post Inv-loop μ-loop
-mul-more t c =
-    let u = facts t (c .before .before .before .before .before .before .before .before) in
-    omega (arith, up-written u)
-
-add-more : (t : ℕ) → find-stairs-lts.Need-add-more (claims t) (given t) find-stairs.Post Inv-loop μ-loop
-add-more t c =
-    let u = facts t (c .before .before .before .before .before .before .before .before) in
-    omega (arith, up-written u)
+div-a : (t : ℕ) → find-stairs-lts.Need-div-a (claims t) (given t) find-stairs.Post Inv-loop μ-loop
+div-a t c = search needs
 
 add-next : (t : ℕ) → find-stairs-lts.Need-add-next (claims t) (given t) find-stairs.Post Inv-loop μ-loop
 add-next t c =
     let u = facts t (c .before .before .before .before .before .before .before .before .before) in
     omega (arith, u .on, ready-longest (u .ready) (u .less), u .ready .to)
 
+repeats-requires : (t : ℕ) → find-stairs-lts.Need-repeats-requires (claims t) (given t) find-stairs.Post Inv-loop μ-loop
+repeats-requires t c κs =
+    let u = facts t (c .before .before .before .before .before .before .before .before .before) in
+    (omega (arith, u .less, u .ready .held .most), up-first u)
+
+loop-less : (t : ℕ) → find-stairs-lts.Need-loop-less (claims t) (given t) find-stairs.Post Inv-loop μ-loop
+loop-less t c =
+    let u = facts t (c .before .before .before .before .before .before .before .before .before .before .before) in
+    omega (arith, u .on, u .ready .from)
+
+loop-again : (t : ℕ) → find-stairs-lts.Need-loop-again (claims t) (given t) find-stairs.Post Inv-loop μ-loop
+loop-again t c =
+    let u = facts t (c .before .before .before .before .before .before .before .before .before .before .before) in
+    (c .before .before .before .before .before .before .before .before .before .before .before .before .loop .inv .0, up-pass u (c .before .repeats .ensures (c .if3 .taken)))
+
+cast-more : (t : ℕ) → find-stairs-lts.Need-cast-more (claims t) (given t) find-stairs.Post Inv-loop μ-loop
+cast-more t c =
+    let u = facts t (c .before .before .before .before .before .before .before .before .before .before .before) in
+    omega (arith, u .on, ready-longest (u .ready) (u .less), div-le-self (c .before .before .before .before .before .before .before .before .before .before .before .before .loop .t) (c .before .before .before .before .before .before .before .before .before .before .before .before .before .before .before .before .before .before .before .before .args .step .0))
+
+mul-more : (t : ℕ) → find-stairs-lts.Need-mul-more (claims t) (given t) find-stairs.Post Inv-loop μ-loop
+mul-more t c =
+    let u = facts t (c .before .before .before .before .before .before .before .before .before .before .before) in
+    omega (arith, up-written u)
+
+add-more : (t : ℕ) → find-stairs-lts.Need-add-more (claims t) (given t) find-stairs.Post Inv-loop μ-loop
+add-more t c =
+    let u = facts t (c .before .before .before .before .before .before .before .before .before .before .before) in
+    omega (arith, up-written u)
+
 add-may-enter : (t : ℕ) → find-stairs-lts.Need-add-may-enter (claims t) (given t) find-stairs.Post Inv-loop μ-loop
 add-may-enter t c = search needs
 
 may-enter-requires : (t : ℕ) → find-stairs-lts.Need-may-enter-requires (claims t) (given t) find-stairs.Post Inv-loop μ-loop
 may-enter-requires t c κs =
-    let u = facts t (c .before .before .before .before .before .before .before .before .before .before .before) in
-    let s = c .before .before .before .before .before .before .before .before .before .before .before .before .loop .inv .0 in
-    (up-cut u, (omega (arith, up-floor u (c .before .before .before .before .before .before .before .job-loss .ensures) (c .before .before .before .before .before .before .loss-floor .ensures)), (s .count-to, s .rises)))
+    let u = facts t (c .before .before .before .before .before .before .before .before .before .before .before .before .before) in
+    let s = c .before .before .before .before .before .before .before .before .before .before .before .before .before .before .loop .inv .0 in
+    (up-cut u, (omega (arith, up-floor u (c .before .before .before .before .before .before .before .before .before .job-loss .ensures) (c .before .before .before .before .before .before .before .before .loss-floor .ensures)), (s .count-to, s .rises)))
 
 mul-periods : (t : ℕ) → find-stairs-lts.Need-mul-periods (claims t) (given t) find-stairs.Post Inv-loop μ-loop
 mul-periods t c =
-    let s = c .before .before .before .before .before .before .before .before .before .before .before .before .before .before .before .before .before .before .before .before .before .before in
-    let r = s .pre .1 .0 in
-    let less = ready-more r (c .before .before .before .before .before .before .before .before .before .before .before .before .before .before .before .before .before .before .before .before .before .if1 .left) in
-    omega (arith, r .held .most)
+    let u = facts t (c .before .before .before .before .before .before .before .before .before .before .before .before .before .before .before) in
+    omega (arith, u .less, u .ready .held .most)
 
 element-write-periods : (t : ℕ) → find-stairs-lts.Need-element-write-periods (claims t) (given t) find-stairs.Post Inv-loop μ-loop
 element-write-periods t c =
-    let s = c .before .before .before .before .before .before .before .before .before .before .before .before .before .before .before .before .before .before .before .before .before .before in
-    let r = s .pre .1 .0 in
-    let less = ready-more r (c .before .before .before .before .before .before .before .before .before .before .before .before .before .before .before .before .before .before .before .before .before .if1 .left) in
-    omega (arith, r .held .most)
+    let u = facts t (c .before .before .before .before .before .before .before .before .before .before .before .before .before .before .before) in
+    omega (arith, u .less, u .ready .held .most)
 
 add-find-stairs : (t : ℕ) → find-stairs-lts.Need-add-find-stairs (claims t) (given t) find-stairs.Post Inv-loop μ-loop
 add-find-stairs t c =
-    let s = c .before .before .before .before .before .before .before .before .before .before .before .before .before .before .before .before .before .before .before .before .before .before in
-    let r = s .pre .1 .0 in
-    let less = ready-more r (c .before .before .before .before .before .before .before .before .before .before .before .before .before .before .before .before .before .before .before .before .before .if1 .left) in
-    omega (arith, r .held .most)
+    let u = facts t (c .before .before .before .before .before .before .before .before .before .before .before .before .before .before .before) in
+    omega (arith, u .less, u .ready .held .most)
 
 find-stairs-requires : (t : ℕ) → find-stairs-lts.Need-find-stairs-requires (claims t) (given t) find-stairs.Post Inv-loop μ-loop
 find-stairs-requires t c κs =
-    let u = facts t (c .before .before .before .before .before .before .before .before .before .before .before .before .before .before .before .before) in
-    (omega (arith, u .less, c .before .before .before .before .before .before .before .before .before .before .before .before .before .before .before .before .before .before .before .before .before .before .before .before .before .pre .0), (up-next u (c .before .before .before .before .before .before .before .before .before .before .before .before .job-loss .ensures), period-set (u .ready .held .most) (u .less) (omega (arith, u .on, ready-longest (u .ready) (u .less))) (c .before .before .before .before .before .before .before .before .before .before .before .before .before .before .before .before .before .loop .inv .0)))
-
-loop-less : (t : ℕ) → find-stairs-lts.Need-loop-less (claims t) (given t) find-stairs.Post Inv-loop μ-loop
-loop-less t c =
-    let u = facts t (c .before .before .before .before .before .before .before .before .before .before .before .before .before .before .before .before .before) in
-    omega (arith, u .on, u .ready .from)
-
-loop-again : (t : ℕ) → find-stairs-lts.Need-loop-again (claims t) (given t) find-stairs.Post Inv-loop μ-loop
-loop-again t c =
-    let u = facts t (c .before .before .before .before .before .before .before .before .before .before .before .before .before .before .before .before .before) in
-    let w = c .find-stairs .ensures in
-    (w .stands, up-turn u (c .before .before .before .before .before .before .before .before .before .before .before .before .before .job-loss .ensures) (c .before .before .before .before .before .before .before .before .before .before .before .before .loss-floor .ensures) (c .before .before .before .before .before .before .before .before .before .before .before .before .before .before .before .before .before .before .loop .inv .0 .periods .size) (w .walked))
+    let u = facts t (c .before .before .before .before .before .before .before .before .before .before .before .before .before .before .before .before .before .before) in
+    (omega (arith, u .less, c .before .before .before .before .before .before .before .before .before .before .before .before .before .before .before .before .before .before .before .before .before .before .before .before .before .before .before .pre .0), (up-next u (c .before .before .before .before .before .before .before .before .before .before .before .before .before .before .job-loss .ensures), period-set (u .ready .held .most) (u .less) (omega (arith, u .on, ready-longest (u .ready) (u .less))) (c .before .before .before .before .before .before .before .before .before .before .before .before .before .before .before .before .before .before .before .loop .inv .0)))
 
 loop-less-2 : (t : ℕ) → find-stairs-lts.Need-loop-less-2 (claims t) (given t) find-stairs.Post Inv-loop μ-loop
 loop-less-2 t c =
-    let u = facts t (c .before .before .before .before .before .before .before .before .before .before .before .before .before) in
+    let u = facts t (c .before .before .before .before .before .before .before .before .before .before .before .before .before .before .before .before .before .before .before) in
     omega (arith, u .on, u .ready .from)
 
 loop-again-2 : (t : ℕ) → find-stairs-lts.Need-loop-again-2 (claims t) (given t) find-stairs.Post Inv-loop μ-loop
 loop-again-2 t c =
-    let u = facts t (c .before .before .before .before .before .before .before .before .before .before .before .before .before) in
-    (c .before .before .before .before .before .before .before .before .before .before .before .before .before .before .loop .inv .0, up-skip u (c .before .before .before .before .before .before .before .before .before .job-loss .ensures) (c .before .before .before .before .before .before .before .before .loss-floor .ensures) (c .before .may-enter .ensures (c .if3 .left)))
+    let u = facts t (c .before .before .before .before .before .before .before .before .before .before .before .before .before .before .before .before .before .before .before) in
+    let w = c .find-stairs .ensures in
+    (w .stands, up-turn u (c .before .before .before .before .before .before .before .before .before .before .before .before .before .before .before .job-loss .ensures) (c .before .before .before .before .before .before .before .before .before .before .before .before .before .before .loss-floor .ensures) (c .before .before .before .before .before .before .before .before .before .before .before .before .before .before .before .before .before .before .before .before .loop .inv .0 .periods .size) (w .walked))
+
+loop-less-3 : (t : ℕ) → find-stairs-lts.Need-loop-less-3 (claims t) (given t) find-stairs.Post Inv-loop μ-loop
+loop-less-3 t c =
+    let u = facts t (c .before .before .before .before .before .before .before .before .before .before .before .before .before .before .before) in
+    omega (arith, u .on, u .ready .from)
+
+loop-again-3 : (t : ℕ) → find-stairs-lts.Need-loop-again-3 (claims t) (given t) find-stairs.Post Inv-loop μ-loop
+loop-again-3 t c =
+    let u = facts t (c .before .before .before .before .before .before .before .before .before .before .before .before .before .before .before) in
+    (c .before .before .before .before .before .before .before .before .before .before .before .before .before .before .before .before .loop .inv .0, up-skip u (c .before .before .before .before .before .before .before .before .before .before .before .job-loss .ensures) (c .before .before .before .before .before .before .before .before .before .before .loss-floor .ensures) (c .before .may-enter .ensures (c .if4 .left)))
 
 returns-3 : (t : ℕ) → find-stairs-lts.Need-returns-3 (claims t) (given t) find-stairs.Post Inv-loop μ-loop
 returns-3 t c =
@@ -277,15 +287,15 @@ pub +find-stairs-spec : {M : Type 1} → statement M
     (mul-own t)
     (element-copy-out-own t)
     (cast-own t)
-    (sub-t t)
-    (add-t t)
-    (div-t t)
+    (sub-first t)
+    (add-first t)
+    (div-first t)
     (mul-t t)
     (loop-holds t)
     (mul-job-loss t)
     (element-copy-out-job-loss t)
-    (mul-t44 t)
-    (element-copy-out-t47 t)
+    (mul-t45 t)
+    (element-copy-out-t48 t)
     (add-job-loss t)
     (mul-job-loss-2 t)
     (element-copy-out-job-loss-2 t)
@@ -296,19 +306,22 @@ pub +find-stairs-spec : {M : Type 1} → statement M
     (add-floor t)
     (element-copy-out-if2 t)
     (returns-2 t)
-    (div-more t)
+    (div-a t)
+    (add-next t)
+    (repeats-requires t)
+    (loop-less t)
+    (loop-again t)
     (cast-more t)
     (mul-more t)
     (add-more t)
-    (add-next t)
     (add-may-enter t)
     (may-enter-requires t)
     (mul-periods t)
     (element-write-periods t)
     (add-find-stairs t)
     (find-stairs-requires t)
-    (loop-less t)
-    (loop-again t)
     (loop-less-2 t)
     (loop-again-2 t)
+    (loop-less-3 t)
+    (loop-again-3 t)
     (returns-3 t)
