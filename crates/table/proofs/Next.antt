@@ -1,16 +1,20 @@
 -- The next answers below a limit are the last rows of the table there, from the back: each is the last row of what the rows before it left.
 -- Assumes nothing.
-use mathlib.Core.Path.{_≡_, sym, _∙_, ap}
+use mathlib.Core.Path.{_≡_, sym, _∙_, ap, subst}
 use mathlib.Core.List.{List, [], _∷_, _++_, map, reverse, append-nil, append-assoc, reverse-cons}
-use Prim.Native.Nat.{ℕ, suc, _+_, _<_}
-use lib.ListN.{length, getD, take, length-append, length-map, length-reverse}
+use Prim.Native.Nat.{ℕ, suc, _+_, _-_, _≤_, _<_}
+use native.Mathlib.Omega.{arith}
+use lib.ListN.{length, length-append, length-map, length-reverse}
 use Rattle.model.specs.declared.Seconds.{Seconds}
 use Rattle.model.specs.declared.PagesPerHour.{PagesPerHour}
 use Rattle.model.specs.declared.Job.{Job}
-use Rattle.model.specs.Model.{ValidJobs}
-use Rattle.stairs.specs.Stairs.{Stair}
-use Rattle.stairs.specs.Next.{Answer, NextAnswers, lastNeed, AnswersUnder}
-use Rattle.stairs.proofs.Answers.{answer-at, need-at}
+use Rattle.model.specs.declared.Profile.{Profile}
+use Rattle.model.specs.Model.{jobsOf, ValidJobs, Valid}
+use Rattle.stairs.specs.Stairs.{Stair, stair}
+use Rattle.stairs.specs.Rows.{needIn, stairsIn}
+use Rattle.stairs.specs.Next.{Answer, NextAnswers, lastNeed, AnswersUnder, AnswersBelow}
+use Rattle.stairs.proofs.Rows.{rows-length}
+use Rattle.stairs.proofs.Answers.{need-last, limit-falls}
 use Rattle.table.specs.Descent.{rowsBelow}
 use Rattle.table.proofs.Descent.{rows-step, rows-none}
 
@@ -18,11 +22,6 @@ module _ (js : List Job) (v : ValidJobs js) where
   -- one answer
   pub rows-answer : {limit : ℕ} {r : Stair} → Answer js limit r → rowsBelow js limit ≡ rowsBelow js (r .its-need) ++ (r .periods ∷ [])
   rows-answer {limit} {r} a = rw (a .greatest, a .need-is) (rows-step js v (a .budget) (r .periods) (a .best))
-
-  -- the answer at a place, for a writer that goes through them
-  pub rows-at : (d : Stair) (limit : ℕ) (rows : List Stair) (k : ℕ) → NextAnswers js limit rows → k < length rows →
-      rowsBelow js (lastNeed limit (take k rows)) ≡ rowsBelow js (lastNeed limit (take (suc k) rows)) ++ (getD rows k d .periods ∷ [])
-  rows-at d limit rows k h less = rw (need-at d limit rows k less) (rows-answer (answer-at d limit rows k h less))
 
   pub rows-next : (limit : ℕ) (rows : List Stair) → NextAnswers js limit rows → rowsBelow js limit ≡ rowsBelow js (lastNeed limit rows) ++ reverse (map (λ r. r .periods) rows)
   unfolding lastNeed
@@ -42,3 +41,32 @@ module _ (js : List Job) (v : ValidJobs js) where
   -- where there is none, no row is left
   pub rows-no-answer : (b : PagesPerHour) (rows : List Stair) → AnswersUnder js b rows → length rows ≡ 0 → rowsBelow js (suc (b .0)) ≡ []
   rows-no-answer b rows a e = rows-none js v b (a .none e)
+
+-- a batch, as the functions of this crate get it
+module _ {p : Profile} (v : Valid p) {limit found : ℕ} {flat : List ℕ} (more : 0 < limit) (b : AnswersBelow p limit found flat) where
+  abbrev batch : List Stair
+  batch = stairsIn (p .n) found flat
+
+  same-limit : suc (limit - 1) ≡ limit
+  same-limit = omega arith
+
+  pub batch-length : length (stairsIn (p .n) found flat) ≡ found
+  batch-length = rows-length (p .n) flat 0 found
+
+  pub batch-next : NextAnswers (jobsOf p) limit (stairsIn (p .n) found flat)
+  batch-next = subst (λ (m : ℕ). NextAnswers (jobsOf p) m batch) same-limit (b .under .next)
+
+  pub batch-need : 0 < found → needIn flat (found - 1) ≡ lastNeed limit (stairsIn (p .n) found flat)
+  batch-need some =
+      let d = stair 0 0 [] in
+      let last : length batch ≡ suc (found - 1) = omega (arith, batch-length) in
+      b .words d (found - 1) (omega arith) .need-is ∙ sym (need-last d limit batch (found - 1) last)
+
+  pub batch-count : length (rowsBelow (jobsOf p) limit) ≡ length (rowsBelow (jobsOf p) (lastNeed limit (stairsIn (p .n) found flat))) + found
+  batch-count = omega (arith, count-next (jobsOf p) (v .jobs) limit batch batch-next, batch-length)
+
+  pub batch-falls : lastNeed limit (stairsIn (p .n) found flat) + found ≤ limit
+  batch-falls = omega (arith, limit-falls (jobsOf p) limit batch batch-next, batch-length)
+
+  pub batch-none : found ≡ 0 → rowsBelow (jobsOf p) limit ≡ []
+  batch-none e = ap (rowsBelow (jobsOf p)) (sym same-limit) ∙ rows-no-answer (jobsOf p) (v .jobs) _ batch (b .under) (batch-length ∙ e)

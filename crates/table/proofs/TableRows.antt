@@ -1,37 +1,30 @@
--- Table rows: the two words of a choice are the bytes of its row, and row stands before row from the back of the table.
+-- Table rows: the two words of an answer are the bytes of its row, and row stands before row from the back of the table.
 -- Assumes nothing.
 use mathlib.Core.Path.{_≡_, refl, sym, _∙_, ap, ap₂, subst}
 use mathlib.Core.List.{List, [], _∷_, _++_, map, append-assoc, append-nil}
 use Prim.Native.Nat.{ℕ, zero, suc, _+_, _*_, _-_, _/_, _^_, _≤_, _<_}
 use native.Mathlib.Omega.{arith}
 use native.Mathlib.Decide.{decLt}
-use native.Mathlib.Nat.{le-refl, le-trans}
-use lib.ListN.{length, getD, take, drop, replicate, length-append, take-append-drop}
-use lib.Seq.{take-take, take-append-le, drop-at, length-take-le}
+use native.Mathlib.Nat.{le-refl, le-trans, sub-zero}
+use native.Mathlib.Numerals.{add-one}
+use lib.ListN.{length, getD, take, drop, replicate, length-append, length-drop, take-append-drop}
+use lib.Seq.{take-take, take-append-le, take-length, drop-at, length-take-le}
 use Rattle.model.specs.declared.Seconds.{Seconds}
-use Rattle.model.specs.declared.PagesPerHour.{PagesPerHour}
 use Rattle.model.specs.declared.Job.{Job}
-use Rattle.model.specs.Model.{seconds, pagesPerHour, entries, ValidJobs, PermittedAfter, need}
-use Rattle.model.proofs.Verdicts.{Refuses}
+use Rattle.model.specs.declared.Profile.{Profile}
+use Rattle.model.specs.Model.{seconds, jobsOf, entries, ValidJobs, Valid, PermittedAfter, need}
 use Rattle.codec.specs.Packing.{bits, pack, recut}
 use Rattle.codec.specs.Layout.{byteWidths}
 use Rattle.codec.specs.Rows.{rowBytes, withRow, tableWidths, tableRow}
-use Rattle.codec.proofs.Rows.{row-of-words, row-in}
-use Rattle.choose.specs.declared.Choice.{Choice}
-use Rattle.choose.specs.Choice.{padded, Outcome, given, none-permitted, none-fit}
+use Rattle.codec.proofs.Rows.{row-of-words, row-in, length-row}
+use Rattle.stairs.specs.Stairs.{Stair, stair}
+use Rattle.stairs.specs.Rows.{highWord, lowWord, needIn, lowIn, stairsIn}
+use Rattle.stairs.specs.Next.{Answer, lastNeed, Words, AnswersBelow}
+use Rattle.stairs.proofs.Answers.{answer-at, need-at, answer-below}
 use Rattle.table.specs.Table.{tableBytes}
-use Rattle.table.specs.Descent.{rowsBelow, allBudgets, RowNumbers, highWord, lowWord}
+use Rattle.table.specs.Descent.{rowsBelow, allBudgets, withBatch}
 use Rattle.table.proofs.Descent.{rows-zero}
-use Rattle.table.proofs.Counting.{Plan, rows-chosen, rows-refused, need-falls}
-
--- the fields side by side are the two words
-words : (c : Choice) → pack tableWidths (c .need .0 ∷ map (λ t. t .0) (entries (seconds 0) (c .periods) 0 8)) ≡ highWord c * 2 ^ 64 + lowWord c
-unfolding pack bits entries
-words c = omega arith
-
-pub row-words : (c : Choice) → RowNumbers c → tableRow (c .need) (c .periods) ≡ rowBytes (highWord c) (lowWord c)
-unfolding tableRow
-row-words c r = row-of-words tableWidths (c .need .0 ∷ map (λ t. t .0) (entries (seconds 0) (c .periods) 0 8)) (highWord c) (lowWord c) (words c) (omega arith) (omega arith)
+use Rattle.table.proofs.Next.{rows-answer, batch-length, batch-next, batch-need, batch-count, batch-none}
 
 -- zeros behind a list are what stands beyond it
 getD-zeros : (k i : ℕ) → getD (replicate k (seconds 0)) i (seconds 0) ≡ seconds 0
@@ -49,10 +42,6 @@ unfolding entries
 same-entries xs ys i zero h = refl
 same-entries xs ys i (suc k) h = ap₂ _∷_ (h i) (same-entries xs ys (i + 1) k h)
 
-padded-row : (q : PagesPerHour) (ts : List Seconds) → tableRow q (padded ts) ≡ tableRow q ts
-unfolding tableRow
-padded-row q ts = ap (λ (l : List Seconds). recut tableWidths (byteWidths 16) (q .0 ∷ map (λ t. t .0) l)) (same-entries (padded ts) ts 0 8 (getD-padded ts (8 - length ts)))
-
 -- each permitted period is within the hour
 pub period-to : (before : Seconds) (js : List Job) (ts : List Seconds) → ValidJobs js → PermittedAfter before js ts → (i : ℕ) → getD ts i (seconds 0) .0 ≤ 3600
 period-to before [] [] v h i = omega arith
@@ -61,15 +50,31 @@ period-to before (j ∷ js) [] v h i = omega arith
 period-to before (j ∷ js) (t ∷ ts) v h zero = le-trans (h .0 .below) (v .0 .hi-to)
 period-to before (j ∷ js) (t ∷ ts) v h (suc i) = period-to t js ts (v .1) (h .1) i
 
-module _ {js : List Job} (v : ValidJobs js) {b : PagesPerHour} (small : b .0 < 2 ^ 32) {c : Choice} (plan : Plan js b c) where
-  pub plan-numbers : RowNumbers c
-  plan-numbers = subst RowNumbers (sym (plan .is)) (record { start = omega (arith, plan .best .fits); t1 = at 0; t2 = at 1; t3 = at 2; t4 = at 3; t5 = at 4; t6 = at 5; t7 = at 6; t8 = at 7 })
-    where
-      at : (i : ℕ) → getD (padded (plan .periods)) i (seconds 0) .0 ≤ 3600
-      at i = rw (getD-padded (plan .periods) (8 - length (plan .periods)) i) (period-to (seconds 1) js (plan .periods) v (plan .best .permitted) i)
+-- the periods of a row as numbers
+number-at : (ts : List Seconds) (i : ℕ) → getD (map (λ t. t .0) ts) i 0 ≡ getD ts i (seconds 0) .0
+number-at [] i = refl
+number-at (t ∷ ts) zero = refl
+number-at (t ∷ ts) (suc i) = number-at ts i
 
-  pub plan-row : rowBytes (highWord c) (lowWord c) ≡ tableRow (need js (plan .periods)) (plan .periods)
-  plan-row = sym (row-words c plan-numbers) ∙ ap (λ (d : Choice). tableRow (d .need) (d .periods)) (plan .is) ∙ padded-row (need js (plan .periods)) (plan .periods)
+-- the fields side by side are the two words
+fields : (q : ℕ) (ts : List Seconds) → pack tableWidths (q ∷ map (λ t. t .0) (entries (seconds 0) ts 0 8)) ≡ highWord q (map (λ t. t .0) ts) * 2 ^ 64 + lowWord (map (λ t. t .0) ts)
+unfolding pack bits entries
+fields q ts = rw (number-at ts 0, number-at ts 1, number-at ts 2, number-at ts 3, number-at ts 4, number-at ts 5, number-at ts 6, number-at ts 7) (omega arith)
+
+-- so the two words of an answer are the bytes of its row
+module _ {js : List Job} {limit : ℕ} {r : Stair} (a : Answer js limit r) {high low : ℕ} (w : Words r high low) where
+  pub answer-row : limit ≤ 2 ^ 32 → rowBytes high low ≡ tableRow (need js (r .periods)) (r .periods)
+  unfolding tableRow
+  answer-row within =
+      let small : high < 2 ^ 64 = omega (arith, w .need-is, answer-below a) in
+      let is = fields (r .its-need) (r .periods) ∙ sym (ap₂ (λ (x y : ℕ). x * 2 ^ 64 + y) (w .high-is) (w .low-is)) in
+      sym (ap (λ (q : ℕ). recut tableWidths (byteWidths 16) (q ∷ map (λ t. t .0) (entries (seconds 0) (r .periods) 0 8))) (sym (a .need-is)) ∙ row-of-words tableWidths _ high low is small (w .low-fits))
+
+-- a row more changes no length
+row-length : (out : List ℕ) (k high low : ℕ) → k < length out / 16 → length (withRow out k (rowBytes high low)) ≡ length out
+row-length out k high low room =
+    let front : length (take (16 * k) out) ≡ 16 * k = length-take-le (16 * k) out (omega arith) in
+    ap length (row-in out (rowBytes high low) k room) ∙ simp (length-append, front, length-row, length-drop) (omega arith)
 
 -- writing, with the rows of the budgets below the limit still to come: those behind them stand in their places
 pub record Writing (js : List Job) (count : ℕ) (old out : List ℕ) (row limit : ℕ) : Type 0 where
@@ -105,54 +110,87 @@ module _ (js : List Job) (count : ℕ) (old : List ℕ) where
         nil-of-zero [] d = refl
         nil-of-zero (x ∷ l) d = absurd (omega arith)
 
-    module _ (more : 0 < row) where
-      pub limit-left : 0 < limit
-      limit-left = go (decLt 0 limit)
-        where
-          go : Dec (0 < limit) → 0 < limit
-          go (yes h) = h
-          go (no h) =
-              let z : limit ≡ 0 = omega arith in
-              absurd (omega (arith, i .left, ap length (ap (rowsBelow js) z ∙ rows-zero js)))
+    pub limit-left : 0 < row → 0 < limit
+    limit-left more = go (decLt 0 limit)
+      where
+        go : Dec (0 < limit) → 0 < limit
+        go (yes h) = h
+        go (no h) =
+            let z : limit ≡ 0 = omega arith in
+            absurd (omega (arith, i .left, ap length (ap (rowsBelow js) z ∙ rows-zero js)))
 
-      module _ (v : ValidJobs js) {c : Choice} (o : Outcome js (pagesPerHour (limit - 1)) c) where
-        -- there are rows left, so the choice is no refusal
-        pub chosen : Plan js (pagesPerHour (limit - 1)) c
-        chosen = go o
-          where
-            refused-not : {d : Choice} → Outcome js (pagesPerHour (limit - 1)) d → Refuses (d .verdict) → ⊥
-            refused-not p r = omega (arith, i .left, ap length (rows-refused js v limit limit-left p r))
+    one-written : ValidJobs js → {r : Stair} → Answer js limit r → (high low : ℕ) → Words r high low → count ≤ length old / 16 →
+        Writing js count old (withRow out (row - 1) (rowBytes high low)) (row - 1) (r .its-need)
+    unfolding tableBytes
+    one-written v {r} a high low w room =
+        let ts = r .periods in
+        let R = tableRow (need js ts) ts in
+        let T = tableBytes js (i .written) in
+        let D = drop (16 * count) old in
+        let P = take (16 * row) old in
+        let step : rowsBelow js limit ≡ rowsBelow js (r .its-need) ++ (ts ∷ []) = rows-answer js v a in
+        let one-more : row ≡ length (rowsBelow js (r .its-need)) + 1 = i .left ∙ ap length step ∙ length-append (rowsBelow js (r .its-need)) (ts ∷ []) in
+        let front : length P ≡ 16 * row = length-take-le (16 * row) old (omega (arith, i .upto)) in
+        let before-it : take (16 * (row - 1)) out ≡ take (16 * (row - 1)) old = ap (take (16 * (row - 1))) (i .bytes) ∙ take-append-le (16 * (row - 1)) P (T ++ D) (omega arith) ∙ take-take (16 * (row - 1)) (16 * row) old (omega arith) in
+        let place : 16 * (row - 1) + 16 ≡ 16 * row = omega arith in
+        let after-it : drop (16 * (row - 1) + 16) out ≡ T ++ D = ap₂ drop place (i .bytes) ∙ drop-at P (T ++ D) (16 * row) front in
+        let is : rowBytes high low ≡ R = answer-row a w (i .within) in
+        let inside : row - 1 < length out / 16 = subst (λ (k : ℕ). row - 1 < k / 16) (sym (i .same)) (omega (arith, i .upto)) in
+        record {
+          written = ts ∷ i .written;
+          whole = i .whole ∙ ap (λ (l : List (List Seconds)). l ++ i .written) step ∙ append-assoc (rowsBelow js (r .its-need)) (ts ∷ []) (i .written);
+          left = omega arith;
+          within = omega (arith, i .within, answer-below a);
+          upto = omega (arith, i .upto);
+          same = row-length out (row - 1) high low inside ∙ i .same;
+          bytes = row-in out (rowBytes high low) (row - 1) inside ∙ ap₂ (λ (a b : List ℕ). a ++ (rowBytes high low ++ b)) before-it after-it ∙ ap (λ (r : List ℕ). take (16 * (row - 1)) old ++ (r ++ (T ++ D))) is ∙ ap (λ (l : List ℕ). take (16 * (row - 1)) old ++ l) (sym (append-assoc R T D));
+        }
 
-            go : {d : Choice} → Outcome js (pagesPerHour (limit - 1)) d → Plan js (pagesPerHour (limit - 1)) d
-            go (given {ts} h) = record { periods = ts; best = h; is = refl }
-            go (none-permitted no-list) = absurd (refused-not (none-permitted no-list) tt)
-            go (none-fit l unfit) = absurd (refused-not (none-fit l unfit) tt)
+-- writing a batch, as the code does it
+pub batch-more : (flat old : List ℕ) (end k : ℕ) {out new : List ℕ} → out ≡ withBatch flat end k old → new ≡ withRow out (end - 1 - k) (rowBytes (getD flat (3 * k) 0) (lowIn flat k)) → new ≡ withBatch flat end (k + 1) old
+unfolding withBatch
+batch-more flat old end k e is = rw add-one (is ∙ ap (λ (l : List ℕ). withRow l (end - 1 - k) (rowBytes (getD flat (3 * k) 0) (lowIn flat k))) e)
 
-        pub numbers : RowNumbers c
-        numbers = plan-numbers v (omega (arith, i .within, limit-left)) chosen
+module _ {p : Profile} {count : ℕ} {old : List ℕ} (v : Valid p) (room : count ≤ length old / 16) {out : List ℕ} {row limit found : ℕ} {flat : List ℕ} (i : Writing (jobsOf p) count old out row limit) (more : 0 < row) (b : AnswersBelow p limit found flat) where
+  from : 0 < limit
+  from = limit-left (jobsOf p) count old out row limit i more
 
-        pub one-written : (high low : ℕ) {new : List ℕ} → count ≤ length old / 16 → high ≡ highWord c → low ≡ lowWord c → length new ≡ length out
-            → new ≡ withRow out (row - 1) (rowBytes high low) → Writing js count old new (row - 1) (c .need .0)
-        unfolding tableBytes
-        one-written high low {new} room eh el size e =
-            let ts = chosen .periods in
-            let R = tableRow (need js ts) ts in
-            let T = tableBytes js (i .written) in
-            let D = drop (16 * count) old in
-            let P = take (16 * row) old in
-            let step : rowsBelow js limit ≡ rowsBelow js (c .need .0) ++ (ts ∷ []) = rows-chosen js v limit limit-left chosen in
-            let front : length P ≡ 16 * row = length-take-le (16 * row) old (omega (arith, i .upto)) in
-            let before-it : take (16 * (row - 1)) out ≡ take (16 * (row - 1)) old = ap (take (16 * (row - 1))) (i .bytes) ∙ take-append-le (16 * (row - 1)) P (T ++ D) (omega arith) ∙ take-take (16 * (row - 1)) (16 * row) old (omega arith) in
-            let place : 16 * (row - 1) + 16 ≡ 16 * row = omega arith in
-            let after-it : drop (16 * (row - 1) + 16) out ≡ T ++ D = ap₂ drop place (i .bytes) ∙ drop-at P (T ++ D) (16 * row) front in
-            let is : rowBytes high low ≡ R = ap₂ rowBytes eh el ∙ plan-row v (omega (arith, i .within, limit-left)) chosen in
-            let inside : row - 1 < length out / 16 = subst (λ (k : ℕ). row - 1 < k / 16) (sym (i .same)) (omega (arith, i .upto)) in
-            record {
-              written = ts ∷ i .written;
-              whole = i .whole ∙ ap (λ (l : List (List Seconds)). l ++ i .written) step ∙ append-assoc (rowsBelow js (c .need .0)) (ts ∷ []) (i .written);
-              left = omega (arith, i .left, ap length step, length-append (rowsBelow js (c .need .0)) (ts ∷ []));
-              within = omega (arith, i .within, need-falls js v limit limit-left chosen);
-              upto = omega (arith, i .upto);
-              same = size ∙ i .same;
-              bytes = e ∙ row-in out (rowBytes high low) (row - 1) inside ∙ ap₂ (λ (a b : List ℕ). a ++ (rowBytes high low ++ b)) before-it after-it ∙ ap (λ (r : List ℕ). take (16 * (row - 1)) old ++ (r ++ (T ++ D))) is ∙ ap (λ (l : List ℕ). take (16 * (row - 1)) old ++ l) (sym (append-assoc R T D));
-            }
+  -- there are rows left, so some are found, and no more than those
+  pub some-found : 0 < found
+  some-found = go (decLt 0 found)
+    where
+      go : Dec (0 < found) → 0 < found
+      go (yes h) = h
+      go (no h) = absurd (omega (arith, i .left, ap length (batch-none v from b (omega arith))))
+
+  pub found-left : found ≤ row
+  found-left = omega (arith, i .left, batch-count v from b)
+
+  -- one row of the batch more
+  next-written : (k : ℕ) → k < found → Writing (jobsOf p) count old (withBatch flat row k out) (row - k) (lastNeed limit (take k (stairsIn (p .n) found flat))) →
+      Writing (jobsOf p) count old (withBatch flat row (suc k) out) (row - suc k) (lastNeed limit (take (suc k) (stairsIn (p .n) found flat)))
+  unfolding withBatch
+  next-written k less w =
+      let d = stair 0 0 [] in
+      let rows = stairsIn (p .n) found flat in
+      let inside : k < length rows = omega (arith, batch-length v from b) in
+      let place : row - k - 1 ≡ row - 1 - k = omega arith in
+      let left : row - k - 1 ≡ row - suc k = omega arith in
+      let one = one-written (jobsOf p) count old (withBatch flat row k out) (row - k) (lastNeed limit (take k rows)) w (v .jobs) (answer-at d limit rows k (batch-next v from b) inside) (getD flat (3 * k) 0) (lowIn flat k) (b .words d k less) room in
+      subst (Writing (jobsOf p) count old (withBatch flat row (suc k) out) (row - suc k)) (sym (need-at d limit rows k inside))
+      (subst (λ (m : ℕ). Writing (jobsOf p) count old (withBatch flat row (suc k) out) m (getD rows k d .its-need)) left
+      (subst (λ (m : ℕ). Writing (jobsOf p) count old (withRow (withBatch flat row k out) m (rowBytes (getD flat (3 * k) 0) (lowIn flat k))) (row - k - 1) (getD rows k d .its-need)) place one))
+
+  none-yet : Writing (jobsOf p) count old (withBatch flat row 0 out) (row - 0) (lastNeed limit (take 0 (stairsIn (p .n) found flat)))
+  unfolding withBatch lastNeed
+  none-yet = rw sub-zero i
+
+  rows-written : (k : ℕ) → k ≤ found → Writing (jobsOf p) count old (withBatch flat row k out) (row - k) (lastNeed limit (take k (stairsIn (p .n) found flat)))
+  rows-written zero le = none-yet
+  rows-written (suc k) le = next-written k le (rows-written k (omega arith))
+
+  pub batch-written : {new : List ℕ} {next : ℕ} → new ≡ withBatch flat row found out → next ≡ needIn flat (found - 1) → Writing (jobsOf p) count old new (row - found) next
+  batch-written e is =
+      let rows = stairsIn (p .n) found flat in
+      let all : take found rows ≡ rows = ap (λ (k : ℕ). take k rows) (sym (batch-length v from b)) ∙ take-length rows in
+      rw (e, is, batch-need v from b some-found) (subst (λ (l : List Stair). Writing (jobsOf p) count old (withBatch flat row found out) (row - found) (lastNeed limit l)) all (rows-written found (le-refl found)))

@@ -2,18 +2,20 @@
 -- private functions ask and promise. No public contract cites this. Assumes nothing.
 use mathlib.Core.List.{List, [], _∷_, _++_}
 use mathlib.Core.Bool.{cond}
-use Prim.Native.Nat.{ℕ, zero, suc, _+_, _*_, _/_, _%_, _^_, _≤_, _<_}
+use Prim.Native.Nat.{ℕ, zero, suc, _*_, _-_, _^_}
 use lib.ListN.{getD}
 use lib.Dec.{leb, ltb}
 use Rattle.model.specs.declared.Seconds.{Seconds}
 use Rattle.model.specs.declared.PagesPerHour.{PagesPerHour}
 use Rattle.model.specs.declared.Job.{Job}
 use Rattle.model.specs.declared.Verdict.the-variants.{NoPeriods, Budget}
-use Rattle.model.specs.Model.{seconds, need}
+use Rattle.model.specs.Model.{need}
 use Rattle.choose.specs.declared.Choice.{Choice}
 use Rattle.choose.specs.Choice.{answered, refused}
 use Rattle.walk.specs.Walk.{start, walk}
 use Rattle.choose.specs.Found.{Found, nothing, found, pick}
+use Rattle.codec.specs.Rows.{rowBytes, withRow}
+use Rattle.stairs.specs.Rows.{lowIn}
 
 -- The rows up to what was found: those whose need is below its need, then itself.
 unfoldable pub upTo : (ℕ → List (List Seconds)) → Found → List (List Seconds)
@@ -44,25 +46,7 @@ unfoldable pub readTable : List Job → List (List Seconds) → PagesPerHour →
 readTable js [] b = refused NoPeriods
 readTable js (ts ∷ rows) b = cond (ltb (b .0) (need js ts .0)) (refused (Budget (need js ts))) (answered js (lastRow js b ts rows))
 
--- The period at place k of eight.
-abbrev pub periodAt : Choice → ℕ → ℕ
-periodAt c k = getD (c .periods) k (seconds 0) .0
-
--- Numbers that are small enough for the fields of a row.
-pub record RowNumbers (c : Choice) : Type 0 where
-  pub start : c .need .0 < 2 ^ 32
-  pub t1 : periodAt c 0 ≤ 3600
-  pub t2 : periodAt c 1 ≤ 3600
-  pub t3 : periodAt c 2 ≤ 3600
-  pub t4 : periodAt c 3 ≤ 3600
-  pub t5 : periodAt c 4 ≤ 3600
-  pub t6 : periodAt c 5 ≤ 3600
-  pub t7 : periodAt c 6 ≤ 3600
-  pub t8 : periodAt c 7 ≤ 3600
-
--- The two words of a row: the third period stands in both.
-abbrev pub highWord : Choice → ℕ
-highWord c = c .need .0 * 2 ^ 32 + (periodAt c 0 * 2 ^ 20 + (periodAt c 1 * 2 ^ 8 + periodAt c 2 / 2 ^ 4))
-
-abbrev pub lowWord : Choice → ℕ
-lowWord c = periodAt c 2 % 2 ^ 4 * 2 ^ 60 + (periodAt c 3 * 2 ^ 48 + (periodAt c 4 * 2 ^ 36 + (periodAt c 5 * 2 ^ 24 + (periodAt c 6 * 2 ^ 12 + periodAt c 7))))
+-- A buffer with the first k rows of a batch in the places before `end`, from the back.
+unfoldable pub withBatch : List ℕ → ℕ → ℕ → List ℕ → List ℕ
+withBatch flat end zero out = out
+withBatch flat end (suc k) out = withRow (withBatch flat end k out) (end - 1 - k) (rowBytes (getD flat (3 * k) 0) (lowIn flat k))

@@ -3,24 +3,25 @@
 // specs/Table.antt says which rows a table has, which bytes, and what building answers; specs/Descent.antt serves the
 // private functions alone. Nothing is assumed, and no public function has a `requires`.
 //
-// The best periods for a budget are also best for every budget from their need on. So the rows are the choice at the
-// greatest budget, then the choice at one page less than its need, and so on until nothing fits.
-use choose::Choice;
+// The best periods for a budget are also best for every budget from their need on. So the rows are the best periods for the
+// greatest budget, then the best below their need, and so on until nothing fits; each walk collects a batch of them.
 use model::Counted;
-use model::PagesPerHour;
 use model::Profile;
 use model::Verdict;
 ghost use mathlib.Core.Path.{_≡_};
 ghost use mathlib.Core.List.{_++_};
 ghost use Prim.Native.Nat.{_*_, _-_, _/_, _≤_, _<_};
 ghost use lib.ListN.{length, drop};
-ghost use Rattle.model.specs.Model.{pagesPerHour, jobsOf, Valid};
-ghost use Rattle.choose.specs.Choice.{Outcome};
+ghost use Rattle.model.specs.Model.{jobsOf, Valid};
+ghost use Rattle.stairs.specs.Rows.{needIn};
 ghost use Rattle.table.specs.Table.{tableBytes, Built};
-ghost use Rattle.table.specs.Descent.{rowsBelow, allBudgets, RowNumbers, highWord, lowWord};
+ghost use Rattle.table.specs.Descent.{rowsBelow, allBudgets, withBatch};
 
 // One more than the greatest budget.
 const ALL_BUDGETS: u64 = 0x1_0000_0000;
+
+// A need stands above 32 bits of periods.
+const NEED: u64 = 0x1_0000_0000;
 
 // Writes the budget table to the front of `out`, or refuses: the profile's own refusal, 9, then 11 with the rows needed.
 pub fn build_table(p: Profile, out: &mut [u8]) -> Counted
@@ -54,21 +55,21 @@ pub fn build_table(p: Profile, out: &mut [u8]) -> Counted
     }
 }
 
-// How many rows there are: one for each choice, from the greatest budget down.
+// How many rows there are, from the greatest budget down.
 fn count_rows(p: Profile) -> u64
     requires { ⌜ Valid p ⌝ }
     ensures { λ r. ⌜ r ≡ length (rowsBelow (jobsOf p) allBudgets) ⌝ }
 {
+    let mut rows = [0u64; 768];
     let mut count: u64 = 0;
     let mut limit = ALL_BUDGETS;
     while 0 < limit {
-        let c = choice_below(p, limit);
-        let v = c.verdict;
-        let Verdict::Sound = v else {
+        let found = stairs::answers_below(p, limit, &mut rows);
+        if found == 0 {
             return count;
-        };
-        limit = c.need.0 as u64;
-        count += 1;
+        }
+        count += found as u64;
+        limit = last_need(&rows, found);
     }
     count
 }
@@ -78,55 +79,38 @@ fn write_rows(p: Profile, count: usize, out: &mut [u8])
     requires { ⌜ Valid p × (count ≡ length (rowsBelow (jobsOf p) allBudgets)) × (count ≤ length (now out) / 16) ⌝ }
     ensures { λ _. ⌜ now (out .exit) ≡ tableBytes (jobsOf p) (rowsBelow (jobsOf p) allBudgets) ++ drop (16 * count) (now (out .entry)) ⌝ }
 {
-    let mut row = count;
+    let mut rows = [0u64; 768];
+    let mut left = count;
     let mut limit = ALL_BUDGETS;
-    while 0 < row {
-        row -= 1;
-        let last = choice_below(p, limit);
-        codec::put_row(out, row, high_word(last), low_word(last));
-        limit = last.need.0 as u64;
+    while 0 < left {
+        let found = stairs::answers_below(p, limit, &mut rows);
+        write_batch(&rows, found, left, out);
+        left -= found;
+        limit = last_need(&rows, found);
     }
 }
 
-// The choice at the last budget below `limit`.
-fn choice_below(p: Profile, limit: u64) -> Choice
-    requires { ⌜ Valid p × (0 < limit) × (limit ≤ allBudgets) ⌝ }
-    ensures { λ r. ⌜ Outcome (jobsOf p) (pagesPerHour (limit - 1)) r ⌝ }
+// A batch to the places before `end`, its first row last: needs fall in a batch and rise in a table.
+fn write_batch(rows: &[u64; 768], found: usize, end: usize, out: &mut [u8])
+    requires { ⌜ found ≤ 256 ⌝ }
+    requires { ⌜ found ≤ end ⌝ }
+    ensures { λ _. ⌜ now (out .exit) ≡ withBatch (now (rows .entry)) end found (now (out .entry)) ⌝ }
 {
-    choose::choose(p, PagesPerHour((limit - 1) as u32))
+    let mut k: usize = 0;
+    while k < found {
+        let high = rows[3 * k];
+        let low = rows[3 * k + 1];
+        let place = end - 1 - k;
+        codec::put_row(out, place, high, low);
+        k += 1;
+    }
 }
 
-// The first eight bytes of a row: the start, the first two periods and the eight high bits of the third.
-fn high_word(c: Choice) -> u64
-    requires { ⌜ RowNumbers c ⌝ }
-    ensures { λ r. ⌜ r ≡ highWord c ⌝ }
+// The need of the last of so many rows: what the next batch stays below.
+fn last_need(rows: &[u64; 768], found: usize) -> u64
+    requires { ⌜ 0 < found ⌝ }
+    requires { ⌜ found ≤ 256 ⌝ }
+    ensures { λ r. ⌜ r ≡ needIn (now (rows .entry)) (found - 1) ⌝ }
 {
-    let t1 = c.periods[0];
-    let t2 = c.periods[1];
-    let t3 = c.periods[2];
-    wide(c.need.0) * 0x1_0000_0000
-        + (wide(t1.0) * 0x10_0000 + (wide(t2.0) * 0x100 + wide(t3.0) / 0x10))
-}
-
-// The last eight bytes of a row: the four low bits of the third period and the last five.
-fn low_word(c: Choice) -> u64
-    requires { ⌜ RowNumbers c ⌝ }
-    ensures { λ r. ⌜ r ≡ lowWord c ⌝ }
-{
-    let t3 = c.periods[2];
-    let t4 = c.periods[3];
-    let t5 = c.periods[4];
-    let t6 = c.periods[5];
-    let t7 = c.periods[6];
-    let t8 = c.periods[7];
-    wide(t3.0) % 0x10 * 0x1000_0000_0000_0000
-        + (wide(t4.0) * 0x1_0000_0000_0000
-            + (wide(t5.0) * 0x10_0000_0000
-                + (wide(t6.0) * 0x100_0000 + (wide(t7.0) * 0x1000 + wide(t8.0)))))
-}
-
-fn wide(x: u32) -> u64
-    ensures { λ r. ⌜ r ≡ x ⌝ }
-{
-    x as u64
+    rows[3 * (found - 1)] / NEED
 }
