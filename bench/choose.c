@@ -67,12 +67,6 @@ static void measure(const char *name, const uint32_t jobs[40], uint32_t budget, 
     fflush(stdout);
 }
 
-/* Jobs of which the seventh alone writes pages: lo, hi, data, metadata, stiffness of each. */
-static const uint32_t one_writes[40] = {
-    1, 3503, 0, 0, 7,  1, 3362, 0, 0, 19, 8, 3076, 0, 0, 21,         1, 3585, 0, 0, 18,
-    1, 2874, 0, 0, 22, 4, 2854, 0, 0, 2,  8, 2905, 32615, 32616, 22, 1, 3133, 0, 0, 12,
-};
-
 static void fix_last(uint32_t jobs[40], uint32_t t) { jobs[35] = jobs[36] = t; }
 
 static uint32_t greatest_need(const uint32_t jobs[40])

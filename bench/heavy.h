@@ -1,4 +1,4 @@
-/* The profile that the choice and the table are measured on. */
+/* The profiles that the choice and the table are measured on. */
 #ifndef HEAVY_H
 #define HEAVY_H
 
@@ -14,5 +14,17 @@ static void heavy_jobs(uint32_t jobs[40], uint32_t lo, uint32_t hi)
         memcpy(jobs + 5 * i, job, sizeof job);
     }
 }
+
+/* Jobs of which the seventh alone writes pages: lo, hi, data, metadata, stiffness of each. */
+static const uint32_t one_writes[40] = {
+    1, 3503, 0, 0, 7,  1, 3362, 0, 0, 19, 8, 3076, 0, 0, 21,         1, 3585, 0, 0, 18,
+    1, 2874, 0, 0, 22, 4, 2854, 0, 0, 2,  8, 2905, 32615, 32616, 22, 1, 3133, 0, 0, 12,
+};
+
+/* Jobs with 295,498 rows in their table. */
+static const uint32_t many_rows[40] = {
+    1,   2887, 1,     1,     5, 7, 3050, 20165, 20166, 14, 5,   3483, 1, 1, 11, 18, 2531, 1, 1, 6,
+    172, 2329, 27956, 27956, 1, 1, 3114, 1,     0,     22, 226, 2566, 0, 0, 4,  9,  2892, 1, 1, 9,
+};
 
 #endif

@@ -1,21 +1,45 @@
-/* Measures building the budget table against the same algorithm in C, in room enough and in too little, in one run. Ends
- * with status 1 where the answers or the bytes differ or the bound is broken. */
+/* Measures building the budget table against the same algorithm in C and against one choice per row, on the same inputs in
+ * one run. Ends with status 1 where the answers or the bytes differ or a bound is broken. */
 #define _POSIX_C_SOURCE 199309L
 #include <inttypes.h>
 #include <stdio.h>
-#include <stdlib.h>
 #include <string.h>
 
 #include "charopleth.h"
+#include "drawn.h"
 #include "heavy.h"
+#include "reference.h"
 #include "timing.h"
 #include "walk.h"
 
-static const double most_of_walk = 1.5;
+/* At most this many times the same in C; at least this many times faster than one choice per row on the heavy profile and on
+ * a thousand drawn ones, and than without the cut for jobs that have no pages. */
+static const double most_of_walk = 1.5, least_of_choices = 8, least_of_choices_drawn = 5, least_of_uncut = 100;
+
+enum { ROWS = 32768, SMALL = 4096, DRAWN = 1000 };
+
+static uint8_t have[16 * ROWS], want[16 * ROWS];
+static int failed;
 
 typedef uint64_t builder(uint32_t, const uint32_t[40], uint8_t *, size_t);
 
-static int failed;
+/* The table by one choice per row, counted and then filled from its end. */
+static uint64_t by_choices(uint32_t n, const uint32_t jobs[40], uint8_t *room, size_t length)
+{
+    uint64_t answer[10], rows = 0, limit = (uint64_t)1 << 32, result = 0;
+    for (; limit > 0 && (result = charopleth_choose(n, jobs, (uint32_t)(limit - 1), answer)) == 0; limit = answer[0])
+        rows++;
+    if (rows == 0)
+        return CHAROPLETH_REFUSAL(result) == 10 ? (uint64_t)9 << 48 : result;
+    if (length / 16 < rows)
+        return (uint64_t)11 << 48 | rows;
+    limit = (uint64_t)1 << 32;
+    for (uint64_t row = rows; row-- > 0; limit = answer[0]) {
+        charopleth_choose(n, jobs, (uint32_t)(limit - 1), answer);
+        reference_row(answer[0], answer + 2, room + 16 * row);
+    }
+    return rows;
+}
 
 static double seconds_for(builder *f, const uint32_t jobs[40], uint8_t *room, size_t length, uint64_t *result)
 {
@@ -24,36 +48,86 @@ static double seconds_for(builder *f, const uint32_t jobs[40], uint8_t *room, si
     return now() - start;
 }
 
-/* Each in a room of so many rows, over bytes that are alike. */
-static void measure(const uint32_t jobs[40], size_t rows)
+/* The time of the proved builder, and as a multiple of it that of another, whose answer and bytes must be the same. */
+static double against(const char *name, builder *other, const uint32_t jobs[40], size_t length, double proved, uint64_t answered)
 {
-    size_t length = 16 * rows;
-    uint8_t *have = malloc(length), *want = malloc(length);
-    if (!have || !want) {
-        printf("no memory for %zu rows\n", rows);
+    uint64_t wanted;
+    memset(want, 0xA5, sizeof want);
+    double taken = seconds_for(other, jobs, want, length, &wanted);
+    if (answered != wanted || memcmp(have, want, length) != 0) {
+        printf("%s: the tables differ\n", name);
         failed = 1;
-        return;
     }
-    memset(have, 0xA5, length);
-    memset(want, 0xA5, length);
-    uint64_t answered, wanted;
-    double proved = seconds_for(charopleth_table, jobs, have, length, &answered);
-    double by_hand = seconds_for(walk_table, jobs, want, length, &wanted);
-    double ratio = proved / by_hand;
-    printf("table of 8 jobs [1,3600] in room for %5zu rows: refusal %2u, %5" PRIu64 "  %8.2f s  %5.2f x the same in C\n", rows, CHAROPLETH_REFUSAL(answered), CHAROPLETH_DETAIL(answered), proved, ratio);
-    fflush(stdout);
-    if (ratio > most_of_walk || answered != wanted || memcmp(have, want, length) != 0)
+    return taken / proved;
+}
+
+/* In room for so many rows: against C, and where a bound is given against one choice per row. */
+static void measure(const char *name, const uint32_t jobs[40], size_t rows, double least)
+{
+    uint64_t answered;
+    memset(have, 0xA5, sizeof have);
+    double proved = seconds_for(charopleth_table, jobs, have, 16 * rows, &answered);
+    double ratio = 1 / against(name, walk_table, jobs, 16 * rows, proved, answered);
+    printf("%-28s room %5zu: refusal %2u, %6" PRIu64 " rows %8.2f s  %5.2f x the same in C", name, rows, CHAROPLETH_REFUSAL(answered), (uint64_t)CHAROPLETH_DETAIL(answered), proved, ratio);
+    if (ratio > most_of_walk)
         failed = 1;
-    free(have);
-    free(want);
+    if (least > 0) {
+        double faster = against(name, by_choices, jobs, 16 * rows, proved, answered);
+        printf("  1/%.1f of one choice per row", faster);
+        if (faster < least)
+            failed = 1;
+    }
+    printf("\n");
+    fflush(stdout);
+}
+
+static void measure_drawn(void)
+{
+    double proved = 0, by_hand = 0, chosen = 0, slowest = 0;
+    uint64_t rows = 0;
+    random_state = 20261115;
+    for (int i = 0; i < DRAWN; i++) {
+        uint32_t jobs[40];
+        uint64_t answered;
+        draw_synthetic(jobs);
+        memset(have, 0xA5, sizeof have);
+        double taken = seconds_for(charopleth_table, jobs, have, sizeof have, &answered);
+        proved += taken;
+        slowest = taken > slowest ? taken : slowest;
+        by_hand += taken * against("drawn", walk_table, jobs, sizeof have, taken, answered);
+        chosen += taken * against("drawn", by_choices, jobs, sizeof have, taken, answered);
+        rows += CHAROPLETH_REFUSAL(answered) ? 0 : answered;
+    }
+    printf("%d drawn as in the paper: %" PRIu64 " rows in %.2f s  %5.2f x the same in C  1/%.1f of one choice per row; slowest %.2f ms (10 ms in the paper, on another machine)\n", DRAWN, rows, proved, proved / by_hand,
+           chosen / proved, slowest * 1e3);
+    fflush(stdout);
+    if (proved / by_hand > most_of_walk || chosen / proved < least_of_choices_drawn)
+        failed = 1;
+}
+
+/* Seven of eight jobs without pages: the cut for them, and what it saves. */
+static void measure_pageless(void)
+{
+    uint64_t answered;
+    memset(have, 0xA5, sizeof have);
+    double proved = seconds_for(charopleth_table, one_writes, have, sizeof have, &answered);
+    double faster = against("seven without pages", walk_table_uncut, one_writes, sizeof have, proved, answered);
+    printf("seven of eight without pages: %" PRIu64 " rows in %.3f s  1/%.0f of the same in C without the cut\n", answered, proved, faster);
+    fflush(stdout);
+    if (faster < least_of_uncut)
+        failed = 1;
 }
 
 int main(void)
 {
     uint32_t jobs[40];
     heavy_jobs(jobs, 1, 3600);
-    measure(jobs, 32768);
-    measure(jobs, 4096);
+    measure("8 jobs [1,3600]", jobs, ROWS, least_of_choices);
+    measure("8 jobs [1,3600]", jobs, SMALL, 0);
+    measure("295,498 rows counted", many_rows, 0, 0);
+    measure("seven of eight without pages", one_writes, ROWS, 0);
+    measure_pageless();
+    measure_drawn();
     printf(failed ? "bench: a bound is broken\n" : "bench: within %.1f x the same table in C\n", most_of_walk);
     return failed;
 }

@@ -6,6 +6,7 @@
 
 /* The numbers of the walk, made once, and the best plan so far. */
 struct walk {
+    int without_cut;
     uint32_t n, budget;
     uint32_t lo[8], hi[8], need_pages[8], loss_pages[8], stiffness[8], fastest[8], later[9];
     uint32_t periods[8];
@@ -47,7 +48,7 @@ static int passed_over(uint32_t a, uint32_t first)
 
 static int repeats(const struct walk *w, uint32_t i, uint32_t a, uint32_t first)
 {
-    return w->need_pages[i] == 0 && w->loss_pages[i] == 0 && passed_over(a, first);
+    return !w->without_cut && w->need_pages[i] == 0 && w->loss_pages[i] == 0 && passed_over(a, first);
 }
 
 static uint32_t need_of(uint64_t pages, uint32_t t) { return (uint32_t)((3600 * pages + (t - 1)) / t); }
@@ -94,11 +95,9 @@ static uint32_t least_need(const struct walk *w, uint32_t i, uint32_t step, uint
     return least;
 }
 
-uint64_t walk_choose(uint32_t n, const uint32_t jobs[40], uint32_t budget, uint64_t answer[10])
+/* The numbers of a walk, made once. */
+static struct walk prepared(uint32_t n, const uint32_t jobs[40], uint32_t budget)
 {
-    uint64_t verdict = reference_judge(n, jobs);
-    if (verdict != 0)
-        return verdict;
     struct walk w = {.n = n, .budget = budget, .loss = UINT64_MAX};
     for (uint32_t k = n; k-- > 0;) {
         const uint32_t *job = jobs + 5 * k;
@@ -109,6 +108,15 @@ uint64_t walk_choose(uint32_t n, const uint32_t jobs[40], uint32_t budget, uint6
         w.fastest[k] = 3600 * w.loss_pages[k] / w.lo[k];
         w.later[k] = w.later[k + 1] + 3600 * w.need_pages[k] / w.hi[k];
     }
+    return w;
+}
+
+uint64_t walk_choose(uint32_t n, const uint32_t jobs[40], uint32_t budget, uint64_t answer[10])
+{
+    uint64_t verdict = reference_judge(n, jobs);
+    if (verdict != 0)
+        return verdict;
+    struct walk w = prepared(n, jobs, budget);
     find_best(&w, 0, 1, 0, 0);
     if (w.loss == UINT64_MAX) {
         uint32_t least = least_need(&w, 0, 1, 0, UINT32_MAX);
@@ -121,45 +129,152 @@ uint64_t walk_choose(uint32_t n, const uint32_t jobs[40], uint32_t budget, uint6
     return 0;
 }
 
-/* A field of some bits, most significant first, after the `used` bits of a row of two words; the bits then used. */
-static uint32_t put(uint64_t row[2], uint32_t used, uint32_t width, uint64_t value)
+/* Up to MOST next answers, in rising loss and falling need: the loss of each, and its row of the table as two words. Nothing
+ * at or above the bound enters any more. */
+enum { MOST = 256 };
+
+struct stairs {
+    uint32_t count;
+    uint64_t bound, loss[MOST], high[MOST], low[MOST];
+};
+
+static uint64_t need_in(const struct stairs *s, uint32_t k) { return s->high[k] >> 32; }
+
+/* How many rows in front lose at most this much. */
+static uint32_t losing_at_most(const struct stairs *s, uint64_t loss)
 {
-    uint32_t left = 128 - used - width;
-    if (left >= 64) {
-        row[0] |= value << (left - 64);
-    } else {
-        row[1] |= value << left;
-        if (left + width > 64)
-            row[0] |= value >> (64 - left);
+    uint32_t from = 0, to = s->count;
+    while (from < to) {
+        uint32_t half = (from + to) / 2;
+        if (s->loss[half] <= loss)
+            from = half + 1;
+        else
+            to = half;
     }
-    return used + width;
+    return from;
 }
 
-static void put_row(uint8_t *room, const uint64_t answer[10])
+static int covered(const struct stairs *s, uint64_t need, uint64_t loss)
 {
-    uint64_t row[2] = {0, 0};
-    uint32_t used = put(row, 0, 32, answer[0]);
-    for (int k = 0; k < 8; k++)
-        used = put(row, used, 12, answer[2 + k]);
-    for (int k = 0; k < 16; k++)
-        room[k] = (uint8_t)(row[k / 8] >> (56 - 8 * (k % 8)));
+    uint32_t k = losing_at_most(s, loss);
+    return k > 0 && need_in(s, k - 1) <= need;
 }
 
-uint64_t walk_table(uint32_t n, const uint32_t jobs[40], uint8_t *room, size_t length)
+/* The numbers from place `from` on, `count` of them, to place `to`. */
+static void move(struct stairs *s, uint32_t from, uint32_t to, uint32_t count)
 {
-    uint64_t verdict = reference_judge(n, jobs), answer[10], rows = 0;
+    memmove(s->loss + to, s->loss + from, count * sizeof *s->loss);
+    memmove(s->high + to, s->high + from, count * sizeof *s->high);
+    memmove(s->low + to, s->low + from, count * sizeof *s->low);
+}
+
+/* Makes place i free, from which the rows up to place j leave; whether there is such a place. */
+static int make_place(struct stairs *s, uint32_t i, uint32_t j, uint64_t loss)
+{
+    if (i < j) {
+        move(s, j, i + 1, s->count - j);
+        s->count -= j - i - 1;
+        return 1;
+    }
+    if (s->count < MOST) {
+        move(s, i, i + 1, s->count - i);
+        s->count++;
+        return 1;
+    }
+    s->bound = i == MOST ? loss : s->loss[MOST - 1];
+    if (i < MOST)
+        move(s, i, i + 1, MOST - 1 - i);
+    return i < MOST;
+}
+
+static void enter(const struct walk *w, struct stairs *s, uint64_t need, uint64_t loss)
+{
+    if (loss >= s->bound)
+        return;
+    uint32_t i = losing_at_most(s, loss);
+    if (i > 0 && need_in(s, i - 1) <= need)
+        return;
+    if (i > 0 && s->loss[i - 1] == loss)
+        i--;
+    uint32_t j = i;
+    while (j < s->count && need_in(s, j) >= need)
+        j++;
+    if (!make_place(s, i, j, loss))
+        return;
+    const uint32_t *t = w->periods;
+    s->loss[i] = loss;
+    s->high[i] = need << 32 | (uint64_t)t[0] << 20 | (uint64_t)t[1] << 8 | t[2] >> 4;
+    s->low[i] = (uint64_t)t[2] << 60 | (uint64_t)t[3] << 48 | (uint64_t)t[4] << 36 | (uint64_t)t[5] << 24 | (uint64_t)t[6] << 12 | t[7];
+}
+
+static void find_stairs(struct walk *w, struct stairs *s, uint32_t i, uint32_t step, uint64_t pages, uint64_t lost)
+{
+    if (i == w->n) {
+        uint32_t need = need_of(pages, step);
+        if (need <= w->budget)
+            enter(w, s, need, lost);
+        return;
+    }
+    uint32_t first = (w->lo[i] + step - 1) / step;
+    for (uint32_t t = first * step; t <= w->hi[i]; t += step) {
+        uint64_t here = lost + job_loss(w, i, t);
+        uint64_t floor = here + loss_floor(w, i + 1, t);
+        if (floor >= s->bound)
+            return;
+        if (repeats(w, i, t / step, first))
+            continue;
+        uint64_t more = pages * (t / step) + w->need_pages[i];
+        uint32_t need_floor = need_of(more, t) + w->later[i + 1];
+        if (need_floor > w->budget || covered(s, need_floor, floor) || !reaches(w, i + 1, t))
+            continue;
+        w->periods[i] = t;
+        find_stairs(w, s, i + 1, t, more, here);
+    }
+}
+
+static void next_answers(uint32_t n, const uint32_t jobs[40], uint64_t limit, int without_cut, struct stairs *s)
+{
+    struct walk w = prepared(n, jobs, (uint32_t)(limit - 1));
+    w.without_cut = without_cut;
+    s->count = 0;
+    s->bound = UINT64_MAX;
+    find_stairs(&w, s, 0, 1, 0, 0);
+}
+
+static void put_row(uint8_t *room, uint64_t high, uint64_t low)
+{
+    for (int k = 0; k < 8; k++) {
+        room[k] = (uint8_t)(high >> (56 - 8 * k));
+        room[8 + k] = (uint8_t)(low >> (56 - 8 * k));
+    }
+}
+
+static uint64_t table(uint32_t n, const uint32_t jobs[40], uint8_t *room, size_t length, int without_cut)
+{
+    static const uint64_t all = (uint64_t)1 << 32;
+    uint64_t verdict = reference_judge(n, jobs), rows = 0;
     if (verdict != 0)
         return verdict;
-    for (uint64_t limit = (uint64_t)1 << 32; limit > 0 && walk_choose(n, jobs, (uint32_t)(limit - 1), answer) == 0; rows++)
-        limit = answer[0];
+    struct stairs s;
+    for (uint64_t limit = all; limit > 0; limit = need_in(&s, s.count - 1)) {
+        next_answers(n, jobs, limit, without_cut, &s);
+        if (s.count == 0)
+            break;
+        rows += s.count;
+    }
     if (rows == 0)
         return (uint64_t)9 << 48;
     if (length / 16 < rows)
         return (uint64_t)11 << 48 | rows;
-    uint64_t limit = (uint64_t)1 << 32;
-    for (uint64_t row = rows; row-- > 0; limit = answer[0]) {
-        walk_choose(n, jobs, (uint32_t)(limit - 1), answer);
-        put_row(room + 16 * row, answer);
+    uint64_t left = rows;
+    for (uint64_t limit = all; left > 0; limit = need_in(&s, s.count - 1)) {
+        next_answers(n, jobs, limit, without_cut, &s);
+        for (uint32_t k = 0; k < s.count; k++)
+            put_row(room + 16 * --left, s.high[k], s.low[k]);
     }
     return rows;
 }
+
+uint64_t walk_table(uint32_t n, const uint32_t jobs[40], uint8_t *room, size_t length) { return table(n, jobs, room, length, 0); }
+
+uint64_t walk_table_uncut(uint32_t n, const uint32_t jobs[40], uint8_t *room, size_t length) { return table(n, jobs, room, length, 1); }

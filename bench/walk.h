@@ -1,5 +1,4 @@
-/* The same walk as the planner's, with the same cuts, and the table by one choice a row, written in C by hand: what the
- * proved ones are measured against. */
+/* The same walks as the planner's, with the same cuts, written in C by hand: what the proved ones are measured against. */
 #ifndef WALK_H
 #define WALK_H
 
@@ -8,5 +7,8 @@
 
 uint64_t walk_choose(uint32_t n, const uint32_t jobs[40], uint32_t budget, uint64_t answer[10]);
 uint64_t walk_table(uint32_t n, const uint32_t jobs[40], uint8_t *room, size_t length);
+
+/* The same without the cut for jobs that have no pages. */
+uint64_t walk_table_uncut(uint32_t n, const uint32_t jobs[40], uint8_t *room, size_t length);
 
 #endif

@@ -62,7 +62,7 @@ static void plant(uint32_t jobs[40], uint32_t n)
 }
 
 /* A valid profile. Jobs beyond n hold anything. */
-static uint32_t draw_profile(uint32_t jobs[40])
+static inline uint32_t draw_profile(uint32_t jobs[40])
 {
     uint32_t n = 1 + below(8);
     for (uint32_t i = 0; i < 8; i++)
@@ -96,7 +96,7 @@ static uint32_t draw_edge(void)
 }
 
 /* Breaks some values of a profile. */
-static uint32_t break_profile(uint32_t n, uint32_t jobs[40])
+static inline uint32_t break_profile(uint32_t n, uint32_t jobs[40])
 {
     for (uint32_t k = 1 + below(3); k > 0; k--) {
         if (below(6) == 0)
