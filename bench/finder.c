@@ -1,20 +1,13 @@
 #include "finder.h"
 
 #include "reference.h"
+#include "word.h"
 
 /* The numbers of the jobs that each row is checked by, made once. */
 struct numbers {
     uint32_t n;
     uint32_t lo[8], hi[8], pages[8], hourly[8], fastest[8], stiffness[8];
 };
-
-static uint64_t word_at(const uint8_t *at)
-{
-    uint64_t word = 0;
-    for (int k = 0; k < 8; k++)
-        word = word << 8 | at[k];
-    return word;
-}
 
 static uint32_t start_at(const uint8_t *table, size_t k) { return (uint32_t)(word_at(table + 16 * k) >> 32); }
 

@@ -1,6 +1,7 @@
 #include "lister.h"
 
 #include "reference.h"
+#include "word.h"
 
 struct walk {
     uint32_t n;
@@ -51,12 +52,6 @@ static int next_zone(struct walk *w)
 {
     uint32_t last = w->n - 1;
     return last != 0 && try_multiplier(w, last, w->multipliers[last] + w->multipliers[last - 1]);
-}
-
-static void put_word(uint8_t *at, uint64_t word)
-{
-    for (int k = 7; k >= 0; k--, word /= 256)
-        at[k] = (uint8_t)word;
 }
 
 uint64_t lister_zones(uint32_t n, const uint32_t jobs[40], uint8_t *room, size_t length)

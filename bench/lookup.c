@@ -59,11 +59,7 @@ static void measure(const char *name, uint32_t budget)
     fflush(stdout);
 }
 
-static uint32_t start_of(size_t row)
-{
-    const uint8_t *at = table + 16 * (row - 1);
-    return (uint32_t)at[0] << 24 | (uint32_t)at[1] << 16 | (uint32_t)at[2] << 8 | at[3];
-}
+static uint32_t start_of(size_t row) { return reference_start(table + 16 * (row - 1)); }
 
 int main(void)
 {

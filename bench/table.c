@@ -12,9 +12,8 @@
 #include "timing.h"
 #include "walk.h"
 
-/* At most this many times the same in C; at least this many times faster than one choice per row on the heavy profile and on
- * a thousand drawn ones, and than without the cut for jobs that have no pages. */
-static const double most_of_walk = 1.5, least_of_choices = 8, least_of_choices_drawn = 5, least_of_uncut = 100;
+/* At most this many times the same in C; on a thousand drawn profiles at least this many times faster than one choice per row. */
+static const double most_of_walk = 1.5, least_of_choices_drawn = 5;
 
 enum { ROWS = 32768, SMALL = 4096, DRAWN = 1000 };
 
@@ -61,20 +60,29 @@ static double against(const char *name, builder *other, const uint32_t jobs[40],
     return taken / proved;
 }
 
-/* In room for so many rows: against C, and where a bound is given against one choice per row. */
-static void measure(const char *name, const uint32_t jobs[40], size_t rows, double least)
+/* A slower way to the same table, and how many times faster the proved one must be. */
+struct rival {
+    const char *name;
+    builder *build;
+    double least;
+};
+
+static const struct rival choices = {"one choice per row", by_choices, 8}, uncut = {"the same in C without the cut", walk_table_uncut, 100};
+
+/* In room for so many rows: against C, and against a rival where one is given. */
+static void measure(const char *name, const uint32_t jobs[40], size_t rows, const struct rival *rival)
 {
     uint64_t answered;
     memset(have, 0xA5, sizeof have);
     double proved = seconds_for(charopleth_table, jobs, have, 16 * rows, &answered);
     double ratio = 1 / against(name, walk_table, jobs, 16 * rows, proved, answered);
-    printf("%-28s room %5zu: refusal %2u, %6" PRIu64 " rows %8.2f s  %5.2f x the same in C", name, rows, CHAROPLETH_REFUSAL(answered), (uint64_t)CHAROPLETH_DETAIL(answered), proved, ratio);
+    printf("%-28s room %5zu: refusal %2u, %6" PRIu64 " rows %8.3f s  %5.2f x the same in C", name, rows, CHAROPLETH_REFUSAL(answered), (uint64_t)CHAROPLETH_DETAIL(answered), proved, ratio);
     if (ratio > most_of_walk)
         failed = 1;
-    if (least > 0) {
-        double faster = against(name, by_choices, jobs, 16 * rows, proved, answered);
-        printf("  1/%.1f of one choice per row", faster);
-        if (faster < least)
+    if (rival) {
+        double faster = against(name, rival->build, jobs, 16 * rows, proved, answered);
+        printf("  1/%.1f of %s", faster, rival->name);
+        if (faster < rival->least)
             failed = 1;
     }
     printf("\n");
@@ -105,28 +113,14 @@ static void measure_drawn(void)
         failed = 1;
 }
 
-/* Seven of eight jobs without pages: the cut for them, and what it saves. */
-static void measure_pageless(void)
-{
-    uint64_t answered;
-    memset(have, 0xA5, sizeof have);
-    double proved = seconds_for(charopleth_table, one_writes, have, sizeof have, &answered);
-    double faster = against("seven without pages", walk_table_uncut, one_writes, sizeof have, proved, answered);
-    printf("seven of eight without pages: %" PRIu64 " rows in %.3f s  1/%.0f of the same in C without the cut\n", answered, proved, faster);
-    fflush(stdout);
-    if (faster < least_of_uncut)
-        failed = 1;
-}
-
 int main(void)
 {
     uint32_t jobs[40];
     heavy_jobs(jobs, 1, 3600);
-    measure("8 jobs [1,3600]", jobs, ROWS, least_of_choices);
+    measure("8 jobs [1,3600]", jobs, ROWS, &choices);
     measure("8 jobs [1,3600]", jobs, SMALL, 0);
     measure("295,498 rows counted", many_rows, 0, 0);
-    measure("seven of eight without pages", one_writes, ROWS, 0);
-    measure_pageless();
+    measure("seven of eight without pages", one_writes, ROWS, &uncut);
     measure_drawn();
     printf(failed ? "bench: a bound is broken\n" : "bench: within %.1f x the same table in C\n", most_of_walk);
     return failed;

@@ -3,6 +3,7 @@
 #include <string.h>
 
 #include "reference.h"
+#include "word.h"
 
 /* The numbers of the walk, made once, and the best plan so far. */
 struct walk {
@@ -241,14 +242,6 @@ static void next_answers(uint32_t n, const uint32_t jobs[40], uint64_t limit, in
     find_stairs(&w, s, 0, 1, 0, 0);
 }
 
-static void put_row(uint8_t *room, uint64_t high, uint64_t low)
-{
-    for (int k = 0; k < 8; k++) {
-        room[k] = (uint8_t)(high >> (56 - 8 * k));
-        room[8 + k] = (uint8_t)(low >> (56 - 8 * k));
-    }
-}
-
 static uint64_t table(uint32_t n, const uint32_t jobs[40], uint8_t *room, size_t length, int without_cut)
 {
     static const uint64_t all = (uint64_t)1 << 32;
@@ -269,8 +262,10 @@ static uint64_t table(uint32_t n, const uint32_t jobs[40], uint8_t *room, size_t
     uint64_t left = rows;
     for (uint64_t limit = all; left > 0; limit = need_in(&s, s.count - 1)) {
         next_answers(n, jobs, limit, without_cut, &s);
-        for (uint32_t k = 0; k < s.count; k++)
-            put_row(room + 16 * --left, s.high[k], s.low[k]);
+        for (uint32_t k = 0; k < s.count; k++) {
+            put_word(room + 16 * --left, s.high[k]);
+            put_word(room + 16 * left + 8, s.low[k]);
+        }
     }
     return rows;
 }

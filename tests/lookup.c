@@ -33,11 +33,7 @@ static int same(uint32_t budget, uint64_t *result)
     return 0;
 }
 
-static uint32_t start_of(uint64_t row)
-{
-    const uint8_t *b = l.table + 16 * row;
-    return (uint32_t)b[0] << 24 | (uint32_t)b[1] << 16 | (uint32_t)b[2] << 8 | b[3];
-}
+static uint32_t start_of(uint64_t row) { return reference_start(l.table + 16 * row); }
 
 /* At, just below or just above some row's start, or anywhere. */
 static uint32_t draw_budget(void)

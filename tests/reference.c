@@ -166,13 +166,20 @@ static void enumerate(struct search *s, uint32_t i, uint32_t before)
     }
 }
 
+/* The whole enumeration, `visit` having been called at each list. */
+static struct search enumerated(void (*visit)(struct search *), uint32_t n, const uint32_t jobs[40], uint32_t budget, uint64_t most)
+{
+    struct search s = {.visit = visit, .n = n, .jobs = jobs, .budget = budget, .left = most};
+    enumerate(&s, 0, 1);
+    return s;
+}
+
 uint64_t reference_choose(uint32_t n, const uint32_t jobs[40], uint32_t budget, uint64_t answer[10], uint64_t most)
 {
     uint64_t verdict = reference_judge(n, jobs);
     if (verdict != 0)
         return verdict;
-    struct search s = {.visit = weigh, .n = n, .jobs = jobs, .budget = budget, .left = most};
-    enumerate(&s, 0, 1);
+    struct search s = enumerated(weigh, n, jobs, budget, most);
     if (s.gave_up)
         return REFERENCE_LONG;
     if (!s.permitted)
@@ -231,8 +238,7 @@ uint64_t reference_zones(uint32_t n, const uint32_t jobs[40], uint8_t *room, uin
     uint64_t verdict = reference_judge(n, jobs);
     if (verdict != 0)
         return verdict;
-    struct search s = {.visit = gather, .n = n, .jobs = jobs, .left = most};
-    enumerate(&s, 0, 1);
+    struct search s = enumerated(gather, n, jobs, 0, most);
     uint64_t rows = 0;
     if (s.listed)
         qsort(s.lists, s.listed, sizeof *s.lists, in_order);
@@ -289,13 +295,14 @@ void reference_row(uint64_t need, const uint64_t periods[8], uint8_t row[16])
         at = put_field(row, at, 12, periods[k]);
 }
 
+uint32_t reference_start(const uint8_t row[16]) { return get_field(row, 0, 32); }
+
 uint64_t reference_table(uint32_t n, const uint32_t jobs[40], uint8_t *room, uint64_t length, uint64_t most)
 {
     uint64_t verdict = reference_judge(n, jobs);
     if (verdict != 0)
         return verdict;
-    struct search s = {.visit = keep_plan, .n = n, .jobs = jobs, .left = most};
-    enumerate(&s, 0, 1);
+    struct search s = enumerated(keep_plan, n, jobs, 0, most);
     if (s.listed)
         qsort(s.plans, s.listed, sizeof *s.plans, better);
     /* From the greatest budget down: the best of all, then the best that needs less, and so on. */
@@ -362,7 +369,7 @@ uint64_t reference_lookup(uint32_t n, const uint32_t jobs[40], const uint8_t *ta
     struct search s = {.n = n, .jobs = jobs};
     for (uint64_t k = 0; k < length / 16; k++) {
         const uint8_t *row = table + 16 * k;
-        uint64_t start = get_field(row, 0, 32);
+        uint64_t start = reference_start(row);
         if (!take_periods(&s, row) || need_of(&s) != start)
             return refusal(12, k + 1);
         uint64_t loss = loss_of(&s);
@@ -373,5 +380,5 @@ uint64_t reference_lookup(uint32_t n, const uint32_t jobs[40], const uint8_t *ta
         if (start <= budget)
             answer = k + 1;
     }
-    return answer ? answer : refusal(10, get_field(table, 0, 32));
+    return answer ? answer : refusal(10, reference_start(table));
 }

@@ -24,6 +24,9 @@ uint64_t reference_table(uint32_t n, const uint32_t jobs[40], uint8_t *room, uin
 /* The sixteen bytes of a table row. */
 void reference_row(uint64_t need, const uint64_t periods[8], uint8_t row[16]);
 
+/* Its start. */
+uint32_t reference_start(const uint8_t row[16]);
+
 /* The number of the row that answers a budget, from 1, by the rules row by row. */
 uint64_t reference_lookup(uint32_t n, const uint32_t jobs[40], const uint8_t *table, uint64_t length, uint32_t budget);
 
