@@ -1,8 +1,8 @@
 // Looking a budget up in a table: the row that answers it, as the caller's own bytes, or why there is none.
 //
 // specs/Table.antt says when a table is well formed and which row answers, specs/Lookup.antt what is answered;
-// specs/Cut.antt says how a row is held, and specs/Checks.antt serves the private functions alone. Nothing is assumed, and no public function has
-// a `requires`.
+// specs/Cut.antt says how a row is held, and specs/Checks.antt serves the private functions alone. Nothing is assumed,
+// and no public function has a `requires`.
 use model::Counted;
 use model::Job;
 use model::PagesPerHour;
