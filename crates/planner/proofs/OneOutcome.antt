@@ -14,7 +14,8 @@ use Rattle.choose.proofs.OneOutcome.{choose-one-outcome}
 use Rattle.zones.proofs.OneOutcome.{list-zones-one-outcome}
 use Rattle.table.proofs.OneOutcome.{build-table-one-outcome}
 use Rattle.lookup.proofs.OneOutcome.{locate-one-outcome}
-use Rattle.planner.specs.ForC.{resultOf, countedOf, profileIn, numbersOf, periodsIn, answerOf, ReadsForC, WritesForC, ScoresForC, ChoosesForC, ListsForC, BuildsForC, LooksUpForC}
+use Rattle.exchange.specs.Numbers.{resultOf, countedOf, profileIn, numbersOf, periodsIn, answerOf}
+use Rattle.planner.specs.ForC.{ReadsForC, WritesForC, ScoresForC, ChoosesForC, ListsForC, BuildsForC, LooksUpForC}
 
 pub charopleth-read-one-outcome : (bytes old : List ℕ) {r s : ℕ} {new other-new : List ℕ} → ReadsForC bytes old r new → ReadsForC bytes old s other-new → (r ≡ s) × (new ≡ other-new)
 charopleth-read-one-outcome bytes old one other =

@@ -5,7 +5,7 @@ use Rattle.model.specs.declared.Profile.{Profile}
 use Rattle.model.specs.Model.{pagesPerHour}
 use Rattle.model.proofs.Verdicts.{refuses, beside-sound, beside-refusal}
 use Rattle.choose.specs.Choice.{Chosen}
-use Rattle.planner.specs.ForC.{resultOf, profileIn}
+use Rattle.exchange.specs.Numbers.{resultOf, profileIn}
 use borrow.Author.Needs.{needs}
 use Rattle.planner.proofs.charopleth_choose.Statement.{statement}
 use Rattle.planner.proofs.charopleth_choose.Tie as tie

@@ -2,7 +2,7 @@
 -- Assumes nothing.
 use mathlib.Core.Path.{refl, _∙_, sym, ap}
 use Rattle.model.proofs.Verdicts.{refuses, beside-sound, beside-refusal}
-use Rattle.planner.specs.ForC.{resultOf}
+use Rattle.exchange.specs.Numbers.{resultOf}
 use borrow.Author.Needs.{needs}
 use Rattle.planner.proofs.charopleth_read.Statement.{statement}
 use Rattle.planner.proofs.charopleth_read.Tie as tie

@@ -6,7 +6,7 @@ use Rattle.model.specs.declared.Seconds.{Seconds}
 use Rattle.model.specs.declared.Profile.{Profile}
 use Rattle.model.proofs.Verdicts.{refuses, beside-sound, beside-refusal}
 use Rattle.score.specs.Scoring.{Scores}
-use Rattle.planner.specs.ForC.{resultOf, profileIn, periodsIn}
+use Rattle.exchange.specs.Numbers.{resultOf, profileIn, periodsIn}
 use borrow.Author.Needs.{needs}
 use Rattle.planner.proofs.charopleth_score.Statement.{statement}
 use Rattle.planner.proofs.charopleth_score.Tie as tie

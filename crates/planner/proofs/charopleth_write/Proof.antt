@@ -3,7 +3,7 @@
 use mathlib.Core.Path.{subst}
 use Rattle.model.specs.declared.Profile.{Profile}
 use Rattle.codec.specs.Layout.{Writes}
-use Rattle.planner.specs.ForC.{profileIn}
+use Rattle.exchange.specs.Numbers.{profileIn}
 use borrow.Author.Needs.{needs}
 use Rattle.planner.proofs.charopleth_write.Statement.{statement}
 use Rattle.planner.proofs.charopleth_write.Tie as tie

@@ -8,7 +8,7 @@ use Rattle.model.specs.declared.Job.{Job}
 use Rattle.model.specs.declared.Profile.{Profile}
 use Rattle.model.specs.Model.{noJob, entries}
 use Rattle.model.proofs.Entries.{entries-front}
-use Rattle.planner.specs.ForC.{jobsNumbers, numbersOf, profileIn}
+use Rattle.exchange.specs.Numbers.{jobsNumbers, numbersOf, profileIn}
 
 -- a list of eight is its eight entries
 eight-entries : (js : List Job) → length js ≡ 8 → entries noJob js 0 8 ≡ js

@@ -1,10 +1,10 @@
--- `planner::put_answer` meets its contract: ten stores, one behind the other.
+-- `exchange::put_answer` meets its contract: ten stores, one behind the other.
 -- Assumes nothing.
 use Rattle.model.specs.Model.{entries}
-use Rattle.planner.specs.ForC.{answerOf}
+use Rattle.exchange.specs.Numbers.{answerOf}
 use borrow.Author.Needs.{needs}
-use Rattle.planner.proofs.put_answer.Statement.{statement}
-use Rattle.planner.proofs.put_answer.Tie as tie
+use Rattle.exchange.proofs.put_answer.Statement.{statement}
+use Rattle.exchange.proofs.put_answer.Tie as tie
 
 cast-answer : tie.Need-cast-answer
 cast-answer c = search needs

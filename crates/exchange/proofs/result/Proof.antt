@@ -1,11 +1,11 @@
--- `planner::result` meets its contract: a number below 16 above 48 bits.
+-- `exchange::result` meets its contract: a number below 16 above 48 bits.
 -- Assumes nothing.
 use Rattle.model.proofs.Verdicts.{number-small}
-use Rattle.planner.specs.ForC.{resultOf}
+use Rattle.exchange.specs.Numbers.{resultOf}
 use native.Mathlib.Omega.{arith}
 use borrow.Author.Needs.{needs}
-use Rattle.planner.proofs.result.Statement.{statement}
-use Rattle.planner.proofs.result.Tie as tie
+use Rattle.exchange.proofs.result.Statement.{statement}
+use Rattle.exchange.proofs.result.Tie as tie
 
 detail-requires : tie.Need-detail-requires
 detail-requires c κs = search needs

@@ -1,4 +1,4 @@
--- `planner::put_values` meets its contract: n, then eight jobs, one behind the other.
+-- `exchange::put_values` meets its contract: n, then eight jobs, one behind the other.
 -- Assumes nothing.
 use mathlib.Core.Path.{_≡_, _∙_, ap}
 use mathlib.Core.List.{List}
@@ -8,10 +8,10 @@ use lib.Seq.{sets}
 use Rattle.model.specs.declared.Job.{Job}
 use Rattle.model.specs.declared.Profile.{Profile}
 use Rattle.model.specs.Model.{noJob, entries}
-use Rattle.planner.specs.ForC.{jobNumbers, jobsNumbers, numbersOf}
+use Rattle.exchange.specs.Numbers.{jobNumbers, jobsNumbers, numbersOf}
 use borrow.Author.Needs.{needs}
-use Rattle.planner.proofs.put_values.Statement.{statement}
-use Rattle.planner.proofs.put_values.Tie as tie
+use Rattle.exchange.proofs.put_values.Statement.{statement}
+use Rattle.exchange.proofs.put_values.Tie as tie
 
 -- what was stored before stands behind a job's numbers
 after : (at : ℕ) (j : Job) {old one new : List ℕ} → new ≡ sets one at (jobNumbers j) → one ≡ old → new ≡ sets old at (jobNumbers j)

@@ -1,13 +1,13 @@
--- `planner::counted` meets its contract: the count where the verdict is sound, else the refusal.
+-- `exchange::counted` meets its contract: the count where the verdict is sound, else the refusal.
 -- Assumes nothing.
 use Prim.Native.Nat.{_-_, _^_, min}
 use mathlib.Core.Path.{_≡_, refl, _∙_, sym}
 use Rattle.model.proofs.Verdicts.{refuses, beside-sound, beside-refusal}
-use Rattle.planner.specs.ForC.{countedOf}
+use Rattle.exchange.specs.Numbers.{countedOf}
 use native.Mathlib.Omega.{arith}
 use borrow.Author.Needs.{needs}
-use Rattle.planner.proofs.counted.Statement.{statement}
-use Rattle.planner.proofs.counted.Tie as tie
+use Rattle.exchange.proofs.counted.Statement.{statement}
+use Rattle.exchange.proofs.counted.Tie as tie
 
 enum-told : tie.Need-enum-told
 enum-told c = search needs

@@ -1,10 +1,10 @@
--- `planner::as_periods` meets its contract: the list of eight entries, written out.
+-- `exchange::as_periods` meets its contract: the list of eight entries, written out.
 -- Assumes nothing.
 use mathlib.Core.Path.{refl}
 use Rattle.model.specs.Model.{entries}
 use borrow.Author.Needs.{needs}
-use Rattle.planner.proofs.as_periods.Statement.{statement}
-use Rattle.planner.proofs.as_periods.Tie as tie
+use Rattle.exchange.proofs.as_periods.Statement.{statement}
+use Rattle.exchange.proofs.as_periods.Tie as tie
 
 element-copy-out-t4 : tie.Need-element-copy-out-t4
 element-copy-out-t4 c = search needs

@@ -1,8 +1,8 @@
--- `planner::profile` meets its contract: eight jobs, five numbers each.
+-- `exchange::profile` meets its contract: eight jobs, five numbers each.
 -- Assumes nothing.
 use borrow.Author.Needs.{needs}
-use Rattle.planner.proofs.profile.Statement.{statement}
-use Rattle.planner.proofs.profile.Tie as tie
+use Rattle.exchange.proofs.profile.Statement.{statement}
+use Rattle.exchange.proofs.profile.Tie as tie
 
 job-requires : tie.Need-job-requires
 job-requires c κs = search needs

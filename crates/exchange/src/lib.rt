@@ -1,0 +1,138 @@
+// Profiles, answers and verdicts as the numbers that C lends and gets.
+//
+// specs/Numbers.antt says which numbers stand for what. These functions serve the planner's functions for C, which meet what
+// is required. Nothing is assumed.
+use model::Counted;
+use model::Job;
+use model::PagesPerHour;
+use model::Profile;
+use model::Seconds;
+use model::Verdict;
+ghost use mathlib.Core.Path.{_≡_};
+ghost use Prim.Native.Nat.{_<_};
+ghost use lib.Seq.{sets};
+ghost use Rattle.exchange.specs.Numbers.{resultOf, countedOf, jobIn, profileIn, jobNumbers, numbersOf, periodsIn, answerOf};
+
+// A profile from n and 40 numbers.
+pub fn profile(n: u32, jobs: &[u32; 40]) -> Profile
+    ensures { λ r. ⌜ r ≡ profileIn n (now (jobs .entry)) ⌝ }
+{
+    Profile {
+        n,
+        jobs: [
+            job(jobs, 0),
+            job(jobs, 5),
+            job(jobs, 10),
+            job(jobs, 15),
+            job(jobs, 20),
+            job(jobs, 25),
+            job(jobs, 30),
+            job(jobs, 35),
+        ],
+    }
+}
+
+// The job whose five numbers stand from `at` on.
+pub fn job(jobs: &[u32; 40], at: usize) -> Job
+    requires { ⌜ at < 36 ⌝ }
+    ensures { λ r. ⌜ r ≡ jobIn (now (jobs .entry)) at ⌝ }
+{
+    Job {
+        lo: Seconds(jobs[at]),
+        hi: Seconds(jobs[at + 1]),
+        data: jobs[at + 2],
+        metadata: jobs[at + 3],
+        stiffness: jobs[at + 4],
+    }
+}
+
+// Eight numbers as periods.
+pub fn as_periods(periods: &[u32; 8]) -> [Seconds; 8]
+    ensures { λ r. ⌜ r ≡ periodsIn (now (periods .entry)) ⌝ }
+{
+    [
+        Seconds(periods[0]),
+        Seconds(periods[1]),
+        Seconds(periods[2]),
+        Seconds(periods[3]),
+        Seconds(periods[4]),
+        Seconds(periods[5]),
+        Seconds(periods[6]),
+        Seconds(periods[7]),
+    ]
+}
+
+// n and eight jobs into 41 numbers.
+pub fn put_values(p: Profile, values: &mut [u32; 41])
+    ensures { λ _. ⌜ now (values .exit) ≡ sets (now (values .entry)) 0 (numbersOf p) ⌝ }
+{
+    values[0] = p.n;
+    put_job(p.jobs[0], values, 1);
+    put_job(p.jobs[1], values, 6);
+    put_job(p.jobs[2], values, 11);
+    put_job(p.jobs[3], values, 16);
+    put_job(p.jobs[4], values, 21);
+    put_job(p.jobs[5], values, 26);
+    put_job(p.jobs[6], values, 31);
+    put_job(p.jobs[7], values, 36);
+}
+
+// A job's five numbers from `at` on.
+pub fn put_job(j: Job, values: &mut [u32; 41], at: usize)
+    requires { ⌜ at < 37 ⌝ }
+    ensures { λ _. ⌜ now (values .exit) ≡ sets (now (values .entry)) at (jobNumbers j) ⌝ }
+{
+    values[at] = j.lo.0;
+    values[at + 1] = j.hi.0;
+    values[at + 2] = j.data;
+    values[at + 3] = j.metadata;
+    values[at + 4] = j.stiffness;
+}
+
+// Need, loss and eight periods into ten numbers.
+pub fn put_answer(need: PagesPerHour, loss: u64, periods: [Seconds; 8], answer: &mut [u64; 10])
+    ensures { λ _. ⌜ now (answer .exit) ≡ sets (now (answer .entry)) 0 (answerOf need loss periods) ⌝ }
+{
+    answer[0] = need.0 as u64;
+    answer[1] = loss;
+    answer[2] = wide(periods[0]);
+    answer[3] = wide(periods[1]);
+    answer[4] = wide(periods[2]);
+    answer[5] = wide(periods[3]);
+    answer[6] = wide(periods[4]);
+    answer[7] = wide(periods[5]);
+    answer[8] = wide(periods[6]);
+    answer[9] = wide(periods[7]);
+}
+
+// A period as one of these numbers.
+pub fn wide(t: Seconds) -> u64
+    ensures { λ r. ⌜ r ≡ t .0 ⌝ }
+{
+    t.0 as u64
+}
+
+// A count, or the refusal beside which it is 0, as one number.
+pub fn counted(c: Counted) -> u64
+    ensures { λ r. ⌜ r ≡ countedOf c ⌝ }
+{
+    let v = c.verdict;
+    let Verdict::Sound = v else {
+        return result(v);
+    };
+    if 0xffff_ffff_ffff < c.count {
+        return 0xffff_ffff_ffff;
+    }
+    c.count
+}
+
+// A verdict as one number: the refusal's number above its detail.
+pub fn result(v: Verdict) -> u64
+    ensures { λ r. ⌜ r ≡ resultOf v ⌝ }
+{
+    let detail = model::detail(v);
+    if 0xffff_ffff_ffff < detail {
+        return (model::number(v) as u64) * 0x1_0000_0000_0000 + 0xffff_ffff_ffff;
+    }
+    (model::number(v) as u64) * 0x1_0000_0000_0000 + detail
+}
