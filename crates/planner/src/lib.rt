@@ -23,12 +23,21 @@ pub use score::Scored;
 pub use score::score;
 pub use table::build_table;
 pub use zones::list_zones;
-ghost use Rattle.planner.specs.ForC.{ReadsForC, WritesForC, ScoresForC, ChoosesForC, ListsForC, BuildsForC, LooksUpForC};
+ghost use mathlib.Core.List.{[], _∷_};
+ghost use Rattle.model.specs.Model.{pagesPerHour};
+ghost use Rattle.codec.specs.Layout.{Reads, Writes};
+ghost use Rattle.score.specs.Scoring.{Scores};
+ghost use Rattle.choose.specs.Choice.{Chosen};
+ghost use Rattle.zones.specs.Zones.{Listed};
+ghost use Rattle.table.specs.Table.{Built};
+ghost use Rattle.lookup.specs.Lookup.{Locates};
+ghost use Rattle.exchange.specs.Numbers.{profileIn, numbersOf, periodsIn, answerOf};
+ghost use Rattle.planner.specs.ForC.{CountsForC, LeavesForC};
 
 // The values that a profile's bytes stand for, into 41 numbers.
 #[no_mangle]
 pub extern "C" fn charopleth_read(bytes: &[u8], values: &mut [u32; 41]) -> u64
-    ensures { λ r. ⌜ ReadsForC (now (bytes .entry)) (now (values .entry)) r (now (values .exit)) ⌝ }
+    ensures { λ r. ⌜ LeavesForC (Reads (now (bytes .entry))) (λ a. a .verdict) (λ a. numbersOf (a .profile)) (now (values .entry)) r (now (values .exit)) ⌝ }
 {
     let r = codec::read_profile(bytes);
     let v = r.verdict;
@@ -43,7 +52,7 @@ pub extern "C" fn charopleth_read(bytes: &[u8], values: &mut [u32; 41]) -> u64
 // A profile's bytes to the front of a lent room; the count of bytes.
 #[no_mangle]
 pub extern "C" fn charopleth_write(n: u32, jobs: &[u32; 40], room: &mut [u8]) -> u64
-    ensures { λ r. ⌜ WritesForC n (now (jobs .entry)) (now (room .entry)) r (now (room .exit)) ⌝ }
+    ensures { λ r. ⌜ CountsForC (λ a. Writes (profileIn n (now (jobs .entry))) (now (room .entry)) a (now (room .exit))) r ⌝ }
 {
     let c = codec::write_profile(exchange::profile(n, jobs), room);
     exchange::counted(c)
@@ -57,7 +66,7 @@ pub extern "C" fn charopleth_score(
     periods: &[u32; 8],
     answer: &mut [u64; 2],
 ) -> u64
-    ensures { λ r. ⌜ ScoresForC n (now (jobs .entry)) (now (periods .entry)) (now (answer .entry)) r (now (answer .exit)) ⌝ }
+    ensures { λ r. ⌜ LeavesForC (Scores (profileIn n (now (jobs .entry))) (periodsIn (now (periods .entry)))) (λ a. a .verdict) (λ a. a .need .0 ∷ a .loss ∷ []) (now (answer .entry)) r (now (answer .exit)) ⌝ }
 {
     let s = score::score(exchange::profile(n, jobs), exchange::as_periods(periods));
     let v = s.verdict;
@@ -77,7 +86,7 @@ pub extern "C" fn charopleth_choose(
     budget: u32,
     answer: &mut [u64; 10],
 ) -> u64
-    ensures { λ r. ⌜ ChoosesForC n (now (jobs .entry)) budget (now (answer .entry)) r (now (answer .exit)) ⌝ }
+    ensures { λ r. ⌜ LeavesForC (Chosen (profileIn n (now (jobs .entry))) (pagesPerHour budget)) (λ a. a .verdict) (λ a. answerOf (a .need) (a .loss) (a .periods)) (now (answer .entry)) r (now (answer .exit)) ⌝ }
 {
     let c = choose::choose(exchange::profile(n, jobs), PagesPerHour(budget));
     let v = c.verdict;
@@ -92,7 +101,7 @@ pub extern "C" fn charopleth_choose(
 // The rows of all zones to the front of a lent room; the count of rows.
 #[no_mangle]
 pub extern "C" fn charopleth_zones(n: u32, jobs: &[u32; 40], room: &mut [u8]) -> u64
-    ensures { λ r. ⌜ ListsForC n (now (jobs .entry)) (now (room .entry)) r (now (room .exit)) ⌝ }
+    ensures { λ r. ⌜ CountsForC (λ a. Listed (profileIn n (now (jobs .entry))) (now (room .entry)) a (now (room .exit))) r ⌝ }
 {
     let c = zones::list_zones(exchange::profile(n, jobs), room);
     exchange::counted(c)
@@ -101,7 +110,7 @@ pub extern "C" fn charopleth_zones(n: u32, jobs: &[u32; 40], room: &mut [u8]) ->
 // The rows of the budget table to the front of a lent room; the count of rows.
 #[no_mangle]
 pub extern "C" fn charopleth_table(n: u32, jobs: &[u32; 40], room: &mut [u8]) -> u64
-    ensures { λ r. ⌜ BuildsForC n (now (jobs .entry)) (now (room .entry)) r (now (room .exit)) ⌝ }
+    ensures { λ r. ⌜ CountsForC (λ a. Built (profileIn n (now (jobs .entry))) (now (room .entry)) a (now (room .exit))) r ⌝ }
 {
     let c = table::build_table(exchange::profile(n, jobs), room);
     exchange::counted(c)
@@ -110,7 +119,7 @@ pub extern "C" fn charopleth_table(n: u32, jobs: &[u32; 40], room: &mut [u8]) ->
 // The number, counted from 1, of the row of a lent table that answers a budget.
 #[no_mangle]
 pub extern "C" fn charopleth_lookup(n: u32, jobs: &[u32; 40], table: &[u8], budget: u32) -> u64
-    ensures { λ r. ⌜ LooksUpForC n (now (jobs .entry)) (now (table .entry)) budget r ⌝ }
+    ensures { λ r. ⌜ CountsForC (Locates (profileIn n (now (jobs .entry))) (now (table .entry)) (pagesPerHour budget)) r ⌝ }
 {
     let c = lookup::locate(exchange::profile(n, jobs), table, PagesPerHour(budget));
     exchange::counted(c)

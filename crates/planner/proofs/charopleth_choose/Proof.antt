@@ -1,11 +1,12 @@
 -- `planner::charopleth_choose` meets its contract: the choice for the profile that the numbers hold, handed on.
 -- Assumes nothing.
-use mathlib.Core.Path.{refl, _∙_, sym, ap, subst}
+use mathlib.Core.Path.{sym, subst}
 use Rattle.model.specs.declared.Profile.{Profile}
 use Rattle.model.specs.Model.{pagesPerHour}
-use Rattle.model.proofs.Verdicts.{refuses, beside-sound, beside-refusal}
+use Rattle.model.proofs.Verdicts.{refuses}
 use Rattle.choose.specs.Choice.{Chosen}
-use Rattle.exchange.specs.Numbers.{resultOf, profileIn}
+use Rattle.exchange.specs.Numbers.{profileIn}
+use Rattle.planner.proofs.Left.{refusal-left, sound-left}
 use borrow.Author.Needs.{needs}
 use Rattle.planner.proofs.charopleth_choose.Statement.{statement}
 use Rattle.planner.proofs.charopleth_choose.Tie as tie
@@ -29,7 +30,7 @@ result-requires c κs = search needs
 returns : tie.Need-returns
 returns c =
     let s = c .before .before in
-    record { choice = s .choose .result; chosen = of-these s; result = c .result .ensures; answer = beside-refusal _ _ (refuses (s .choose .result .verdict) (c .before .match .keys2)) refl }
+    refusal-left (s .choose .result) (of-these s) (refuses (s .choose .result .verdict) (c .before .match .keys2)) (c .result .ensures)
 
 put-answer-requires : tie.Need-put-answer-requires
 put-answer-requires c κs = search needs
@@ -38,8 +39,7 @@ returns-2 : tie.Need-returns-2
 returns-2 c =
     let t = c .before .before .before in
     let s = t .before .before in
-    let sound = t .enum-told .given .1 in
-    record { choice = s .choose .result; chosen = of-these s; result = unfold resultOf in (ap resultOf (sym sound)); answer = c .put-answer .ensures ∙ beside-sound _ _ (sym sound) }
+    sound-left (s .choose .result) (of-these s) (sym (t .enum-told .given .1)) (c .put-answer .ensures)
 
 pub charopleth-choose-spec : {M : Type 1} → statement M
 charopleth-choose-spec =

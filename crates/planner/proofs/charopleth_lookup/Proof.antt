@@ -21,7 +21,7 @@ returns : tie.Need-returns
 returns c =
     let l = c .before in
     let a = l .before .before .before .args in
-    record { finding = l .locate .result; found = subst (λ (p : Profile). Locates p (a .table .now) (pagesPerHour (a .budget)) (l .locate .result)) (l .before .profile .ensures) (l .locate .ensures); result = c .counted .ensures }
+    record { answer = l .locate .result; allowed = subst (λ (p : Profile). Locates p (a .table .now) (pagesPerHour (a .budget)) (l .locate .result)) (l .before .profile .ensures) (l .locate .ensures); result = c .counted .ensures }
 
 pub charopleth-lookup-spec : {M : Type 1} → statement M
 charopleth-lookup-spec =

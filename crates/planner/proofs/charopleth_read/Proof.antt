@@ -1,8 +1,8 @@
 -- `planner::charopleth_read` meets its contract: the reading, handed on.
 -- Assumes nothing.
-use mathlib.Core.Path.{refl, _∙_, sym, ap}
-use Rattle.model.proofs.Verdicts.{refuses, beside-sound, beside-refusal}
-use Rattle.exchange.specs.Numbers.{resultOf}
+use mathlib.Core.Path.{sym}
+use Rattle.model.proofs.Verdicts.{refuses}
+use Rattle.planner.proofs.Left.{refusal-left, sound-left}
 use borrow.Author.Needs.{needs}
 use Rattle.planner.proofs.charopleth_read.Statement.{statement}
 use Rattle.planner.proofs.charopleth_read.Tie as tie
@@ -19,7 +19,7 @@ result-requires c κs = search needs
 returns : tie.Need-returns
 returns c =
     let s = c .before .before in
-    record { reading = s .read-profile .result; read = s .read-profile .ensures; result = c .result .ensures; values = beside-refusal _ _ (refuses (s .read-profile .result .verdict) (c .before .match .keys2)) refl }
+    refusal-left (s .read-profile .result) (s .read-profile .ensures) (refuses (s .read-profile .result .verdict) (c .before .match .keys2)) (c .result .ensures)
 
 put-values-requires : tie.Need-put-values-requires
 put-values-requires c κs = search needs
@@ -28,8 +28,7 @@ returns-2 : tie.Need-returns-2
 returns-2 c =
     let t = c .before .before .before in
     let s = t .before .before in
-    let sound = t .enum-told .given .1 in
-    record { reading = s .read-profile .result; read = s .read-profile .ensures; result = unfold resultOf in (ap resultOf (sym sound)); values = c .put-values .ensures ∙ beside-sound _ _ (sym sound) }
+    sound-left (s .read-profile .result) (s .read-profile .ensures) (sym (t .enum-told .given .1)) (c .put-values .ensures)
 
 pub charopleth-read-spec : {M : Type 1} → statement M
 charopleth-read-spec =

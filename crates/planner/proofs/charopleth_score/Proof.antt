@@ -1,12 +1,13 @@
 -- `planner::charopleth_score` meets its contract: the score for the profile and the periods that the numbers hold, handed on.
 -- Assumes nothing.
-use mathlib.Core.Path.{refl, _∙_, sym, ap, subst}
+use mathlib.Core.Path.{refl, sym, subst}
 use mathlib.Core.List.{List}
 use Rattle.model.specs.declared.Seconds.{Seconds}
 use Rattle.model.specs.declared.Profile.{Profile}
-use Rattle.model.proofs.Verdicts.{refuses, beside-sound, beside-refusal}
+use Rattle.model.proofs.Verdicts.{refuses}
 use Rattle.score.specs.Scoring.{Scores}
-use Rattle.exchange.specs.Numbers.{resultOf, profileIn, periodsIn}
+use Rattle.exchange.specs.Numbers.{profileIn, periodsIn}
+use Rattle.planner.proofs.Left.{refusal-left, sound-left}
 use borrow.Author.Needs.{needs}
 use Rattle.planner.proofs.charopleth_score.Statement.{statement}
 use Rattle.planner.proofs.charopleth_score.Tie as tie
@@ -35,7 +36,7 @@ result-requires c κs = search needs
 returns : tie.Need-returns
 returns c =
     let s = c .before .before in
-    record { scoring = s .score .result; scored = of-these s; result = c .result .ensures; answer = beside-refusal _ _ (refuses (s .score .result .verdict) (c .before .match .keys2)) refl }
+    refusal-left (s .score .result) (of-these s) (refuses (s .score .result .verdict) (c .before .match .keys2)) (c .result .ensures)
 
 cast-answer : tie.Need-cast-answer
 cast-answer c = search needs
@@ -50,8 +51,7 @@ returns-2 : tie.Need-returns-2
 returns-2 c =
     let t = c .before in
     let s = t .before .before in
-    let sound = t .enum-told .given .1 in
-    record { scoring = s .score .result; scored = of-these s; result = unfold resultOf in (ap resultOf (sym sound)); answer = beside-sound _ _ (sym sound) }
+    sound-left (s .score .result) (of-these s) (sym (t .enum-told .given .1)) refl
 
 pub charopleth-score-spec : {M : Type 1} → statement M
 charopleth-score-spec =

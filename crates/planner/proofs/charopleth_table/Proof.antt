@@ -4,7 +4,6 @@ use mathlib.Core.Path.{subst}
 use Rattle.model.specs.declared.Profile.{Profile}
 use Rattle.table.specs.Table.{Built}
 use Rattle.exchange.specs.Numbers.{profileIn}
-use native.Mathlib.Omega.{arith}
 use borrow.Author.Needs.{needs}
 use Rattle.planner.proofs.charopleth_table.Statement.{statement}
 use Rattle.planner.proofs.charopleth_table.Tie as tie
@@ -28,7 +27,7 @@ same-length c = search needs
 returns : tie.Need-returns
 returns c =
     let s = c .before .before .before in
-    record { building = s .build-table .result; built = of-these s; result = c .counted .ensures }
+    record { answer = s .build-table .result; allowed = of-these s; result = c .counted .ensures }
 
 pub charopleth-table-spec : {M : Type 1} → statement M
 charopleth-table-spec =

@@ -27,7 +27,7 @@ same-length c = search needs
 returns : tie.Need-returns
 returns c =
     let s = c .before .before .before in
-    record { writing = s .write-profile .result; written = of-these s; result = c .counted .ensures }
+    record { answer = s .write-profile .result; allowed = of-these s; result = c .counted .ensures }
 
 pub charopleth-write-spec : {M : Type 1} → statement M
 charopleth-write-spec =

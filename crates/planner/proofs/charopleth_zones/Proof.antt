@@ -4,7 +4,6 @@ use mathlib.Core.Path.{subst}
 use Rattle.model.specs.declared.Profile.{Profile}
 use Rattle.zones.specs.Zones.{Listed}
 use Rattle.exchange.specs.Numbers.{profileIn}
-use native.Mathlib.Omega.{arith}
 use borrow.Author.Needs.{needs}
 use Rattle.planner.proofs.charopleth_zones.Statement.{statement}
 use Rattle.planner.proofs.charopleth_zones.Tie as tie
@@ -28,7 +27,7 @@ same-length c = search needs
 returns : tie.Need-returns
 returns c =
     let s = c .before .before .before in
-    record { listing = s .list-zones .result; listed = of-these s; result = c .counted .ensures }
+    record { answer = s .list-zones .result; allowed = of-these s; result = c .counted .ensures }
 
 pub charopleth-zones-spec : {M : Type 1} → statement M
 charopleth-zones-spec =
