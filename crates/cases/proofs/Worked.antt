@@ -9,7 +9,7 @@ use Rattle.score.specs.Scoring.{judgePeriod, firstUnpermitted, scoreVerdict}
 use Rattle.walk.specs.Chains.{climb, risingFrom, multiples, descend, fallingFrom, multiplesDown, chainsBy}
 use Rattle.walk.specs.Walk.{visit, walkBy}
 use Rattle.choose.specs.Found.{beats, pick, lessNeed, settle}
-use Rattle.zones.specs.Listing.{climb as climbUp, upTo as upToLast, unlessEmpty, zonesBelow, zonesIn}
+use Rattle.zonewalk.specs.Listing.{climb as climbUp, upTo as upToLast, unlessEmpty, zonesBelow, zonesIn}
 use Rattle.zones.specs.Zones.{rowsOf}
 use Rattle.table.specs.Table.{tableBytes}
 use Rattle.table.specs.Descent.{upTo, descent}

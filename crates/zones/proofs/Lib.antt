@@ -1,6 +1,4 @@
 pub mod Bound
-pub mod Climbing
-pub mod Copied
 pub mod Coming
 pub mod Flat
 pub mod Listing
@@ -9,5 +7,4 @@ pub mod Outcome
 pub mod Permitted
 pub mod Ranges
 pub mod Rising
-pub mod Walk
 pub mod ZoneRows

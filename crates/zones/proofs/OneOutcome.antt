@@ -14,7 +14,8 @@ use Rattle.model.specs.declared.Counted.{Counted}
 use Rattle.model.specs.declared.Verdict.the-variants.{Sound}
 use Rattle.model.specs.Model.{numberOf, jobsOf, refuseIf, orElse, ifSound, verdictOf}
 use Rattle.model.proofs.Verdicts.{sound-of-zero}
-use Rattle.zones.specs.Zones.{Zone, ZonesOf, rowsOf, listVerdict, Listed}
+use Rattle.zonewalk.specs.Zone.{Zone}
+use Rattle.zones.specs.Zones.{ZonesOf, rowsOf, listVerdict, Listed}
 use Rattle.zones.proofs.Rising.{rising-one}
 
 -- Jobs have one list of zones.

@@ -14,10 +14,11 @@ use Rattle.model.specs.Model.{noJob, jobsOf, refuseIf, verdictOf, Valid}
 use Rattle.model.proofs.Entries.{length-entries}
 use Rattle.model.proofs.Validity.{sound-valid}
 use Rattle.model.proofs.Verdicts.{Refuses, sound-passes, beside-sound, beside-refusal}
-use Rattle.zones.specs.Zones.{Zone, ZonesOf, rowsOf, listVerdict, Listed}
-use Rattle.zones.specs.Listing.{spansFrom, zonesIn, zonesFor, IntervalsOf}
+use Rattle.zonewalk.specs.Zone.{Zone}
+use Rattle.zones.specs.Zones.{ZonesOf, rowsOf, listVerdict, Listed}
+use Rattle.zonewalk.specs.Listing.{spansFrom, zonesIn, zonesFor, IntervalsOf}
 use Rattle.zones.proofs.Bound.{zones-few}
-use Rattle.zones.proofs.Copied.{spans-are}
+use Rattle.zonewalk.proofs.Copied.{spans-are}
 use Rattle.zones.proofs.Listing.{listing-is}
 
 abbrev pub zonesOf : Profile → List Zone

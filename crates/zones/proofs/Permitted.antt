@@ -10,8 +10,9 @@ use lib.ListN.{length}
 use Rattle.model.specs.declared.Seconds.{Seconds}
 use Rattle.model.specs.declared.Job.{Job}
 use Rattle.model.specs.Model.{seconds, ValidJobs, PermittedAfter, Permitted}
-use Rattle.zones.specs.Zones.{Zone, MultiplesAfter, InIntervals, InRange, IsZone}
-use Rattle.zones.specs.Listing.{zonesFor}
+use Rattle.zonewalk.specs.Zone.{Zone}
+use Rattle.zones.specs.Zones.{MultiplesAfter, InIntervals, InRange, IsZone}
+use Rattle.zonewalk.specs.Listing.{zonesFor}
 use Rattle.zones.proofs.Listing.{same-zone, front, zones-have, listing-is}
 
 -- the periods that multipliers give at a first period

@@ -8,8 +8,8 @@ use native.Mathlib.Omega.{arith}
 use native.Mathlib.Nat.{le-div-iff-mul-le}
 use Rattle.model.specs.Model.{roundUp}
 use Rattle.model.proofs.Rounding.{round-up-le}
-use Rattle.zones.specs.Zones.{Zone}
-use Rattle.zones.specs.Listing.{Span, leastFor, greatestFor, unlessEmpty}
+use Rattle.zonewalk.specs.Zone.{Zone}
+use Rattle.zonewalk.specs.Listing.{Span, leastFor, greatestFor, unlessEmpty}
 
 pub record Narrowed (s : Span) (least greatest m t : ℕ) : Type 0 where
   pub from : least ≤ t

@@ -14,8 +14,10 @@ use Rattle.codec.specs.Layout.{byteWidths}
 use Rattle.codec.specs.Rows.{rowBytes, withRow}
 use Rattle.codec.proofs.Packing.{length-recut}
 use Rattle.codec.proofs.Rows.{row-of-words, row-in}
-use Rattle.zones.specs.Zones.{Zone, zoneWidths, zoneFields, rowsOf}
-use Rattle.zones.specs.Listing.{Wrote, Walk, after, current, coming, Opens, WentOn, RowNumbers, highWord, lowWord}
+use Rattle.zonewalk.specs.Zone.{Zone}
+use Rattle.zones.specs.Zones.{zoneWidths, zoneFields, rowsOf}
+use Rattle.zonewalk.specs.Listing.{Walk, after, current, coming, Opens, WentOn}
+use Rattle.zones.specs.ZoneRows.{Wrote, RowNumbers, highWord, lowWord}
 use Rattle.zones.proofs.Coming.{coming-true, coming-false}
 
 getD-zeros : (k j : ℕ) → _≡_ {A = ℕ} (getD (replicate k 0) j 0) 0

@@ -1,12 +1,11 @@
--- Harmonic zones, their rows, and what listing them answers (document 01, Zones and Packing).
--- Cited by public contracts. Assumes nothing.
+-- Harmonic zones, their rows, and what listing them answers (document 01, Zones and Packing). The record Zone, a range and its
+-- multipliers, stands in specs/Zone.antt of zonewalk. Cited by public contracts. Assumes nothing.
 use mathlib.Core.Path.{_≡_}
 use mathlib.Core.Logic.{_↔_}
 use mathlib.Core.List.{List, [], _∷_, _++_, List·Memᴰ}
 use Prim.Native.Nat.{ℕ, _*_, _/_, _%_, _≤_}
 use lib.ListN.{length, getD, drop}
 use lib.Dec.{eqb, ltb}
-use Rattle.model.specs.declared.Seconds.{Seconds}
 use Rattle.model.specs.declared.Job.{Job}
 use Rattle.model.specs.declared.Profile.{Profile}
 use Rattle.model.specs.declared.Counted.{Counted}
@@ -15,12 +14,7 @@ use Rattle.model.specs.declared.Verdict.the-variants.{Sound, NoPeriods, Room}
 use Rattle.model.specs.Model.{entries, jobsOf, refuseIf, orElse, ifSound, verdictOf}
 use Rattle.codec.specs.Layout.{byteWidths}
 use Rattle.codec.specs.Packing.{recut}
-
--- The range of first periods and the multipliers, one for each job; the first is 1 (Zones).
-pub record Zone : Type 0 where
-  pub least : Seconds
-  pub greatest : Seconds
-  pub multipliers : List ℕ
+use Rattle.zonewalk.specs.Zone.{Zone}
 
 -- Multipliers from 1 up, each a whole multiple of the one before it (Zones).
 abbrev pub MultiplesAfter : ℕ → List ℕ → Type 0

@@ -9,9 +9,10 @@ use Rattle.model.specs.declared.Verdict.the-variants.{Sound}
 use Rattle.model.specs.Model.{verdictOf}
 use Rattle.model.proofs.Validity.{sound-valid}
 use Rattle.model.proofs.Verdicts.{refuses, refused-stays}
-use Rattle.zones.specs.Listing.{Spans, spansFrom, zonesIn}
-use Rattle.zones.specs.Zones.{Zone, rowsOf, listVerdict}
-use Rattle.zones.proofs.Copied.{spans-within}
+use Rattle.zonewalk.specs.Listing.{Spans, spansFrom, zonesIn}
+use Rattle.zonewalk.specs.Zone.{Zone}
+use Rattle.zones.specs.Zones.{rowsOf, listVerdict}
+use Rattle.zonewalk.proofs.Copied.{spans-within}
 use Rattle.zones.proofs.Outcome.{zonesOf, handed-on, none-listed, no-room, all-listed, zones-are, few-zones}
 use Rattle.zones.proofs.list_zones.Statement.{statement}
 use Rattle.zones.proofs.list_zones.Tie as tie

@@ -1,11 +1,11 @@
--- `zones::intervals` meets its contract: after k turns the first k jobs' intervals stand in the arrays.
+-- `zonewalk::intervals` meets its contract: after k turns the first k jobs' intervals stand in the arrays.
 -- Assumes nothing.
 use Prim.Native.Nat.{_-_, _≤_}
 use native.Mathlib.Omega.{arith}
 use borrow.Author.Needs.{needs}
-use Rattle.zones.proofs.Copied.{Copied, none-copied, one-copied}
-use Rattle.zones.proofs.intervals.Statement.{statement}
-use Rattle.zones.proofs.intervals.Tie as tie
+use Rattle.zonewalk.proofs.Copied.{Copied, none-copied, one-copied}
+use Rattle.zonewalk.proofs.intervals.Statement.{statement}
+use Rattle.zonewalk.proofs.intervals.Tie as tie
 
 abbrev Inv-loop : tie.InvT-loop
 Inv-loop shortest₀ longest₀ p n k₀ shortest longest k = (k ≤ n) × Copied (p .jobs) k shortest longest

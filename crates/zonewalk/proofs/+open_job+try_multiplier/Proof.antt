@@ -1,4 +1,4 @@
--- `zones::open_job` and `zones::try_multiplier` meet their contracts: each call leaves the same zones to come, and less to try.
+-- `zonewalk::open_job` and `zonewalk::try_multiplier` meet their contracts: each call leaves the same zones to come, and less to try.
 -- What is left to try is a number with a place for each job, how far its multiplier is from the end; a place outweighs all places after it.
 -- Assumes nothing.
 use mathlib.Core.Path.{_≡_, sym, _∙_, ap, subst}
@@ -8,23 +8,23 @@ use lib.ListN.{getD}
 use Prim.Native.Nat.{ℕ, suc, _-_, _/_, _≤_, _<_}
 use native.Mathlib.Omega.{arith}
 use borrow.Author.Needs.{needs}
-use Rattle.zones.specs.Zones.{Zone}
-use Rattle.zones.specs.Listing.{Walk, walk, spanAt, leastFor, greatestFor, firstMultiplier, Kept, opened, after, tries, Opens, WentOn}
-use Rattle.zones.proofs.Walk.{openLeft, tryLeft, falls-opening, falls-next, falls-open, falls-back, past-last, none-under, go-back, at-first, job-opened, pushed, first-asked, first-tries, back-tries, next-tries, push-opens, went-on, went-on-from, stands, ended}
+use Rattle.zonewalk.specs.Zone.{Zone}
+use Rattle.zonewalk.specs.Listing.{Walk, walk, spanAt, leastFor, greatestFor, firstMultiplier, Kept, opened, after, tries, Opens, WentOn}
+use Rattle.zonewalk.proofs.Walk.{openLeft, tryLeft, falls-opening, falls-next, falls-open, falls-back, past-last, none-under, go-back, at-first, job-opened, pushed, first-asked, first-tries, back-tries, next-tries, push-opens, went-on, went-on-from, stands, ended}
 use borrow.Fn.Kinds.{In}
 use borrow.Fn.PlainCycle.{Measures, is, falls, and}
-use Rattle.zones.proofs.open_job.Reads as open-job
-use Rattle.zones.proofs.open_job.Kinds as open-job-kinds
-use Rattle.zones.proofs.+open_job+try_multiplier.Lts-open_job as open-job-lts
-use Rattle.zones.proofs.try_multiplier.Reads as try-multiplier
-use Rattle.zones.proofs.try_multiplier.Kinds as try-multiplier-kinds
-use Rattle.zones.proofs.+open_job+try_multiplier.Lts-try_multiplier as try-multiplier-lts
-use Rattle.zones.proofs.first_multiplier.Reads as first-multiplier-reads
-use Rattle.zones.proofs.greatest_for.Reads as greatest-for-reads
-use Rattle.zones.proofs.last_multiplier.Reads as last-multiplier-reads
-use Rattle.zones.proofs.least_for.Reads as least-for-reads
-use Rattle.zones.proofs.+open_job+try_multiplier.{statement}
-use Rattle.zones.proofs.+open_job+try_multiplier.Tie.{close}
+use Rattle.zonewalk.proofs.open_job.Reads as open-job
+use Rattle.zonewalk.proofs.open_job.Kinds as open-job-kinds
+use Rattle.zonewalk.proofs.+open_job+try_multiplier.Lts-open_job as open-job-lts
+use Rattle.zonewalk.proofs.try_multiplier.Reads as try-multiplier
+use Rattle.zonewalk.proofs.try_multiplier.Kinds as try-multiplier-kinds
+use Rattle.zonewalk.proofs.+open_job+try_multiplier.Lts-try_multiplier as try-multiplier-lts
+use Rattle.ranges.proofs.first_multiplier.Reads as first-multiplier-reads
+use Rattle.ranges.proofs.greatest_for.Reads as greatest-for-reads
+use Rattle.ranges.proofs.last_multiplier.Reads as last-multiplier-reads
+use Rattle.ranges.proofs.least_for.Reads as least-for-reads
+use Rattle.zonewalk.proofs.+open_job+try_multiplier.{statement}
+use Rattle.zonewalk.proofs.+open_job+try_multiplier.Tie.{close}
 
 abbrev μ-open-job : Measures 5 open-job-kinds.ps ℕ
 μ-open-job κs a = openLeft (a .1 .1 .1 .1 .0 .now) (a .0)

@@ -13,9 +13,9 @@ use borrow.Author.Tests.{lt-ltb, le-ltb}
 use mathlib.Core.Logic.{⊎-elim}
 use Rattle.model.specs.Model.{roundUp}
 use Rattle.model.proofs.Rounding.{round-up-le, round-up-some}
-use Rattle.zones.specs.Zones.{Zone}
-use Rattle.zones.specs.Listing.{Span, upTo, leastFor, greatestFor, firstMultiplier, unlessEmpty, zonesBelow, zonesIn, Walk, walk, spanAt, spansFrom, under, tries, after, opened, coming, Kept, Spans, Sized, Opens, Tries, WentOn}
-use Rattle.zones.proofs.Climbing.{up-to-step, up-to-end}
+use Rattle.zonewalk.specs.Zone.{Zone}
+use Rattle.zonewalk.specs.Listing.{Span, upTo, leastFor, greatestFor, firstMultiplier, unlessEmpty, zonesBelow, zonesIn, Walk, walk, spanAt, spansFrom, under, tries, after, opened, coming, Kept, Spans, Sized, Opens, Tries, WentOn}
+use Rattle.zonewalk.proofs.Climbing.{up-to-step, up-to-end}
 
 -- the weight of a multiplier at place i: more than all that can be tried at the places after it
 place : ℕ → ℕ

@@ -12,7 +12,7 @@ use Rattle.model.specs.declared.Job.{Job}
 use Rattle.model.specs.declared.Profile.{Profile}
 use Rattle.model.specs.Model.{noJob, entries, jobsOf, Valid}
 use Rattle.model.proofs.Validity.{job-valid-at}
-use Rattle.zones.specs.Listing.{spanOf, spanAt, spansFrom, IntervalsOf, SpanWithin, Spans}
+use Rattle.zonewalk.specs.Listing.{spanOf, spanAt, spansFrom, IntervalsOf, SpanWithin, Spans}
 
 -- the first k jobs' intervals
 pub record Copied (jobs : List Job) (k : ℕ) (shortest longest : List ℕ) : Type 0 where

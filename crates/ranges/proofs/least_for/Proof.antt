@@ -1,8 +1,8 @@
--- `zones::least_for` meets its contract: the larger of the range's start and the shortest period over m, rounded up.
+-- `ranges::least_for` meets its contract: the larger of the range's start and the shortest period over m, rounded up.
 -- Assumes nothing.
 use borrow.Author.Needs.{needs}
-use Rattle.zones.proofs.least_for.Statement.{statement}
-use Rattle.zones.proofs.least_for.Tie as tie
+use Rattle.ranges.proofs.least_for.Statement.{statement}
+use Rattle.ranges.proofs.least_for.Tie as tie
 
 sub-t : tie.Need-sub-t
 sub-t c = search needs

@@ -1,9 +1,9 @@
--- `zones::first_zone` meets its contract: with the first job open, at multiplier 1 and its whole interval, all zones are still to come.
+-- `zonewalk::first_zone` meets its contract: with the first job open, at multiplier 1 and its whole interval, all zones are still to come.
 -- Assumes nothing.
 use borrow.Author.Needs.{needs}
-use Rattle.zones.proofs.Walk.{begun-opens, begun-zones, went-on-from}
-use Rattle.zones.proofs.first_zone.Statement.{statement}
-use Rattle.zones.proofs.first_zone.Tie as tie
+use Rattle.zonewalk.proofs.Walk.{begun-opens, begun-zones, went-on-from}
+use Rattle.zonewalk.proofs.first_zone.Statement.{statement}
+use Rattle.zonewalk.proofs.first_zone.Tie as tie
 
 element-write-multipliers : tie.Need-element-write-multipliers
 element-write-multipliers c = search needs

@@ -6,7 +6,7 @@ use mathlib.Core.List.{List, [], _∷_, List·Memᴰ, List·Memᴰ·head, List·
 use Prim.Native.Nat.{ℕ, zero, suc, _+_, _*_, _-_, _/_, _≤_, _<_}
 use native.Mathlib.Omega.{arith}
 use native.Mathlib.Nat.{le-div-iff-mul-le, add-div-right, div-eq-of-lt, div-zero, add-mul}
-use Rattle.zones.specs.Listing.{climb, upTo}
+use Rattle.zonewalk.specs.Listing.{climb, upTo}
 
 climb-in : (p t k : ℕ) {u : ℕ} → List·Memᴰ u (climb p t k) → (i : ℕ) × (i < k) × (u ≡ t + i * p)
 unfolding climb

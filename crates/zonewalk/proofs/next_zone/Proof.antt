@@ -1,13 +1,13 @@
--- `zones::next_zone` meets its contract: after a zone the last job's next multiplier is tried; one job alone has one zone.
+-- `zonewalk::next_zone` meets its contract: after a zone the last job's next multiplier is tried; one job alone has one zone.
 -- Assumes nothing.
 use mathlib.Core.Path.{_≡_}
 use Prim.Native.Nat.{suc, _-_}
 use native.Mathlib.Omega.{arith}
 use borrow.Author.Needs.{needs}
-use Rattle.zones.specs.Listing.{Walk, walk}
-use Rattle.zones.proofs.Walk.{at-first, go-back, back-tries, went-on, ended}
-use Rattle.zones.proofs.next_zone.Statement.{statement}
-use Rattle.zones.proofs.next_zone.Tie as tie
+use Rattle.zonewalk.specs.Listing.{Walk, walk}
+use Rattle.zonewalk.proofs.Walk.{at-first, go-back, back-tries, went-on, ended}
+use Rattle.zonewalk.proofs.next_zone.Statement.{statement}
+use Rattle.zonewalk.proofs.next_zone.Tie as tie
 
 abbrev held : tie.Start → Walk
 held s = let x = s .args in walk (x .n) (x .shortest .now) (x .longest .now) (x .multipliers .now) (x .least .now) (x .greatest .now)
