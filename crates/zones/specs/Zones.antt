@@ -28,16 +28,12 @@ InIntervals [] (a ∷ more) t = ⊥
 InIntervals (j ∷ js) [] t = ⊥
 InIntervals (j ∷ js) (a ∷ more) t = (j .lo .0 ≤ a * t) × (a * t ≤ j .hi .0) × InIntervals js more t
 
--- A first period in a zone's range.
-abbrev pub InRange : Zone → ℕ → Type 0
-InRange z t = (z .least .0 ≤ t) × (t ≤ z .greatest .0)
-
 -- A zone of these jobs: its range holds the whole numbers, all and only, that put every job in its interval, and at least one (Zones).
 pub record IsZone (js : List Job) (z : Zone) : Type 0 where
   pub each : length (z .multipliers) ≡ length js
   pub first : getD (z .multipliers) 0 0 ≡ 1
   pub multiples : MultiplesAfter 1 (z .multipliers)
-  pub range : (t : ℕ) → InRange z t ↔ InIntervals js (z .multipliers) t
+  pub range : (t : ℕ) → ((z .least .0 ≤ t) × (t ≤ z .greatest .0)) ↔ InIntervals js (z .multipliers) t
   pub some : z .least .0 ≤ z .greatest .0
 
 -- By a2, then a3, and so on: smaller at the first multiplier in which they differ, and they do differ (Zones).
