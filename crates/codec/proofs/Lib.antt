@@ -1,8 +1,5 @@
-pub mod Headers
-pub mod Numbers
+pub mod Bytes
 pub mod OneOutcome
 pub mod Packing
-pub mod Records
-pub mod RoundTrip
 pub mod Rows
 pub mod Words

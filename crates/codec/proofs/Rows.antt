@@ -1,6 +1,6 @@
 -- Rows of sixteen bytes: written as two words, and cut out of packed fields the same way.
 -- Assumes nothing.
-use mathlib.Core.Path.{_≡_, refl, sym, _∙_, ap, ap₂}
+use mathlib.Core.Path.{_≡_, sym, _∙_, ap, ap₂}
 use mathlib.Core.List.{List, [], _∷_, _++_, append-assoc}
 use Prim.Native.Nat.{ℕ, _+_, _*_, _/_, _%_, _^_, _≤_, _<_}
 use native.Mathlib.Nat.{add-comm, add-mul, mul-assoc, mod-eq-of-lt, mod-lt, suc-inj, suc-ne-zero}
@@ -12,7 +12,7 @@ use lib.Seq.{length-take-le, take-at, take-add, drop-drop, drop-append-add}
 use borrow.Author.Tests.{lt-ltb, le-ltb}
 use Rattle.codec.specs.Packing.{bits, pack, unpack, recut}
 use Rattle.codec.specs.Layout.{byteWidths}
-use Rattle.codec.specs.Rows.{rowBytes, withRow, wordsAt}
+use Rattle.codec.specs.RowWords.{rowBytes, withRow, wordsAt}
 use Rattle.codec.proofs.Packing.{length-unpack}
 
 bits-append : (vs us : List ℕ) → bits (vs ++ us) ≡ bits vs + bits us

@@ -1,4 +1,4 @@
-pub mod Fields
 pub mod Layout
 pub mod Packing
+pub mod RowWords
 pub mod Rows

@@ -2,7 +2,7 @@
 -- Assumes nothing.
 use borrow.Author.Needs.{needs}
 use borrow.Author.Tests.{lt-ltb, le-ltb}
-use Rattle.codec.specs.Rows.{wordsAt}
+use Rattle.codec.specs.RowWords.{wordsAt}
 use Rattle.codec.proofs.get_row.Statement.{statement}
 use Rattle.codec.proofs.get_row.Tie as tie
 

@@ -1,0 +1,4 @@
+pub mod Numbers
+pub mod OneOutcome
+pub mod Records
+pub mod RoundTrip
