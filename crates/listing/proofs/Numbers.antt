@@ -10,9 +10,9 @@ use Rattle.model.specs.declared.Profile.{Profile}
 use Rattle.model.specs.declared.Verdict.the-variants.{Sound}
 use Rattle.model.specs.Model.{seconds, noJob, entries, jobsOf, lastOf, pagesIn, need, rate, jobLoss, loss, refuseIf, orElse, ifSound, firstRefused, judgeIntervalAndStiffness, judgeJob, verdictOf}
 use Rattle.model.proofs.Validity.{sound-valid}
-use Rattle.codec.specs.declared.Reading.{Reading}
 use Rattle.codec.specs.Packing.{bits, pack, unpack, recut}
-use Rattle.codec.specs.Layout.{headerOf, recordsIn, judgeRecord, judgeHeader, verdictOfBytes, eightJobs, Reads}
+use Rattle.reading.specs.declared.Reading.{Reading}
+use Rattle.reading.specs.Reading.{headerOf, recordsIn, judgeRecord, judgeHeader, verdictOfBytes, eightJobs, Reads}
 use Rattle.walk.specs.Walk.{walkBy, visit}
 use Rattle.choose.specs.Found.{pick, beats}
 use Rattle.walk.specs.Chains.{multiples, risingFrom, climb}

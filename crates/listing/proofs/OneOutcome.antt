@@ -5,8 +5,8 @@ use mathlib.Core.List.{List}
 use Prim.Native.Nat.{ℕ}
 use Rattle.model.specs.declared.Counted.{Counted}
 use Rattle.model.specs.Model.{orElse}
-use Rattle.codec.specs.declared.Reading.{Reading}
-use Rattle.codec.proofs.OneOutcome.{read-profile-one-outcome}
+use Rattle.reading.specs.declared.Reading.{Reading}
+use Rattle.reading.proofs.OneOutcome.{read-profile-one-outcome}
 use Rattle.table.specs.Table.{Built}
 use Rattle.table.proofs.OneOutcome.{build-table-one-outcome}
 use Rattle.listing.specs.declared.Listing.{Listing}

@@ -13,9 +13,9 @@ use Rattle.model.specs.declared.Profile.{Profile}
 use Rattle.model.specs.declared.Verdict.the-variants.{Sound, NoPeriods, Room}
 use Rattle.model.specs.Model.{jobsOf, refuseIf, orElse, ifSound, verdictOf}
 use Rattle.model.proofs.Verdicts.{Refuses, beside-refusal}
-use Rattle.codec.specs.declared.Reading.{Reading}
-use Rattle.codec.specs.Layout.{verdictOfBytes, valuesOf, noProfile}
-use Rattle.codec.proofs.OneOutcome.{read-profile-one-outcome}
+use Rattle.reading.specs.declared.Reading.{Reading}
+use Rattle.reading.specs.Reading.{verdictOfBytes, valuesOf, noProfile}
+use Rattle.reading.proofs.OneOutcome.{read-profile-one-outcome}
 use Rattle.table.specs.Table.{TableOf, buildVerdict, Built}
 use Rattle.table.proofs.OneOutcome.{table-one}
 use Rattle.table.proofs.Outcome.{rowsOf, handed-on}

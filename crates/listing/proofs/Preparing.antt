@@ -8,8 +8,8 @@ use Rattle.model.specs.declared.Profile.{Profile}
 use Rattle.model.specs.declared.Verdict.the-variants.{JobCount}
 use Rattle.model.specs.Model.{refuseIf, orElse, verdictOf}
 use Rattle.model.proofs.Verdicts.{Refuses, beside-refusal}
-use Rattle.codec.specs.declared.Reading.{Reading}
-use Rattle.codec.specs.Layout.{noProfile, Reads}
+use Rattle.reading.specs.declared.Reading.{Reading}
+use Rattle.reading.specs.Reading.{noProfile, Reads}
 use Rattle.table.specs.Table.{buildVerdict, Built}
 use Rattle.table.proofs.Outcome.{handed-on}
 

@@ -13,7 +13,8 @@ use Rattle.model.proofs.Validity.{sound-valid}
 use Rattle.model.proofs.Verdicts.{Refuses, both-sound, beside-sound, beside-refusal}
 use Rattle.codec.specs.declared.RowWords.{RowWords}
 use Rattle.codec.specs.Packing.{unpack}
-use Rattle.codec.specs.Rows.{tableWidths, wordsAt}
+use Rattle.codec.specs.RowWords.{wordsAt}
+use Rattle.codec.specs.Rows.{tableWidths}
 use Rattle.score.specs.declared.Scored.{Scored}
 use Rattle.score.specs.Scoring.{scoreVerdict, Scores}
 use Rattle.score.proofs.Permission.{sound-permitted, scorable}

@@ -14,10 +14,11 @@ use Rattle.model.specs.declared.Verdict.{Verdict}
 use Rattle.model.specs.declared.Verdict.the-variants.{Edition, JobCount, Length}
 use Rattle.model.specs.Model.{refuseIf}
 use Rattle.model.proofs.Verdicts.{Refuses, beside-refusal}
-use Rattle.codec.specs.declared.Reading.{Reading}
 use Rattle.codec.specs.Packing.{recut}
-use Rattle.codec.specs.Layout.{headerWidths, byteWidths, headerOf, countOf, profileLength, judgeHeader, verdictOfBytes, Reads}
-use Rattle.codec.proofs.Headers.{sound-header}
+use Rattle.codec.specs.Layout.{headerWidths, byteWidths, profileLength}
+use Rattle.reading.specs.declared.Reading.{Reading}
+use Rattle.reading.specs.Reading.{headerOf, countOf, judgeHeader, verdictOfBytes, Reads}
+use Rattle.reading.proofs.Headers.{sound-header}
 use Rattle.listing.specs.Text.{Text}
 use Rattle.listing.proofs.Verdicts.{sound-or-refused, refused-first}
 

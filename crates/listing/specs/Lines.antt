@@ -14,8 +14,8 @@ use Rattle.model.specs.declared.Profile.{Profile}
 use Rattle.model.specs.declared.Counted.{Counted}
 use Rattle.model.specs.declared.Verdict.{Verdict}
 use Rattle.model.specs.Model.{periodsOf, numberOf, detailOf, orElse, ifSound}
-use Rattle.codec.specs.declared.Reading.{Reading}
-use Rattle.codec.specs.Layout.{Reads}
+use Rattle.reading.specs.declared.Reading.{Reading}
+use Rattle.reading.specs.Reading.{Reads}
 use Rattle.score.specs.Scoring.{scoreVerdict}
 use Rattle.table.specs.Table.{Built}
 use Rattle.lookup.specs.Table.{rowsIn, startAt, periodsAt, lossAt}

@@ -11,8 +11,8 @@ use Rattle.model.specs.declared.Job.{Job}
 use Rattle.model.specs.declared.Verdict.{Verdict}
 use Rattle.model.specs.declared.Verdict.the-variants.{Sound}
 use Rattle.model.specs.Model.{jobsOf, Permitted, need, loss, orElse, ifSound, verdictOf}
-use Rattle.codec.specs.declared.Reading.{Reading}
-use Rattle.codec.specs.Layout.{Reads}
+use Rattle.reading.specs.declared.Reading.{Reading}
+use Rattle.reading.specs.Reading.{Reads}
 use Rattle.table.specs.Table.{TableOf, buildVerdict}
 use Rattle.listing.specs.declared.Listing.{Listing}
 use Rattle.listing.specs.Lines.{refusalLine, headerLine, rowLine, lineAt}

@@ -26,7 +26,7 @@ pub fn prepare(input: &[u8], table: &mut [u8; 65536]) -> Listing
 {
     // As a slice from here on: only a slice's length is known where it is handed back.
     let room: &mut [u8] = table;
-    let reading = codec::read_profile(input);
+    let reading = reading::read_profile(input);
     let profile = reading.profile;
     let v = reading.verdict;
     let Verdict::Sound = v else {

@@ -8,7 +8,8 @@ use native.Mathlib.Omega.{arith}
 use lib.Pow.{pow-pos, shr-lt, shr-shr, split, high, low, mod-pow-add}
 use lib.ListN.{length, getD}
 use Rattle.codec.specs.Packing.{bits, unpack, recut}
-use Rattle.codec.specs.Rows.{tableWidths, wordsAt}
+use Rattle.codec.specs.RowWords.{wordsAt}
+use Rattle.codec.specs.Rows.{tableWidths}
 use Rattle.codec.proofs.Rows.{row-words}
 use Rattle.lookup.specs.Table.{rowFields}
 

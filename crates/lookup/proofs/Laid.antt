@@ -16,7 +16,7 @@ use Rattle.codec.specs.Packing.{bits, recut}
 use Rattle.codec.specs.Layout.{byteWidths}
 use Rattle.codec.specs.Rows.{tableWidths, tableRow}
 use Rattle.codec.proofs.Packing.{Within, recut-back, recut-within, length-recut}
-use Rattle.codec.proofs.RoundTrip.{Bytes}
+use Rattle.codec.proofs.Bytes.{Bytes}
 use Rattle.choose.specs.Choice.{padded}
 use Rattle.table.specs.Table.{tableBytes}
 use Rattle.table.proofs.Best.{need-small}

@@ -15,7 +15,7 @@ use Rattle.model.specs.declared.Counted.{Counted}
 use Rattle.model.specs.declared.Verdict.the-variants.{Sound}
 use Rattle.model.specs.Model.{pagesPerHour, jobsOf, periodsOf, Valid, Best, numberOf}
 use Rattle.model.proofs.Validity.{valid-sound}
-use Rattle.codec.proofs.RoundTrip.{Bytes}
+use Rattle.codec.proofs.Bytes.{Bytes}
 use Rattle.choose.specs.declared.Choice.{Choice}
 use Rattle.choose.specs.Choice.{answered, Outcome, given, none-permitted, none-fit, Chosen}
 use Rattle.table.specs.Table.{TableOf, tableBytes, Built}

@@ -17,7 +17,7 @@ use Rattle.codec.specs.Packing.{recut}
 use Rattle.codec.specs.Layout.{byteWidths}
 use Rattle.codec.specs.Rows.{tableWidths, tableRow}
 use Rattle.codec.proofs.Packing.{Within, recut-back, length-recut}
-use Rattle.codec.proofs.RoundTrip.{Bytes, within-split}
+use Rattle.codec.proofs.Bytes.{Bytes, within-split}
 use Rattle.table.specs.Table.{Rising, tableBytes}
 use Rattle.table.proofs.TableRows.{same-entries}
 use Rattle.lookup.specs.Table.{rowsIn, rowFields, startAt, periodsAt, GoodAlone, WellFormed}

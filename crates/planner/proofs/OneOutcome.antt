@@ -7,8 +7,10 @@ use lib.Seq.{sets}
 use Rattle.model.specs.declared.Verdict.{Verdict}
 use Rattle.model.specs.declared.Counted.{Counted}
 use Rattle.model.specs.Model.{pagesPerHour, ifSound}
-use Rattle.codec.specs.Layout.{Reads, Writes}
-use Rattle.codec.proofs.OneOutcome.{read-profile-one-outcome, write-profile-one-outcome}
+use Rattle.reading.specs.Reading.{Reads}
+use Rattle.reading.proofs.OneOutcome.{read-profile-one-outcome}
+use Rattle.writing.specs.Writing.{Writes}
+use Rattle.writing.proofs.OneOutcome.{write-profile-one-outcome}
 use Rattle.score.specs.Scoring.{Scores}
 use Rattle.score.proofs.OneOutcome.{score-one-outcome}
 use Rattle.choose.specs.Choice.{Chosen}

@@ -6,9 +6,6 @@
 // a `requires`.
 pub use choose::Choice;
 pub use choose::choose;
-pub use codec::Reading;
-pub use codec::read_profile;
-pub use codec::write_profile;
 pub use lookup::judge_lookup;
 pub use lookup::lookup;
 pub use model::Counted;
@@ -19,13 +16,17 @@ pub use model::Seconds;
 pub use model::Verdict;
 pub use model::detail;
 pub use model::number;
+pub use reading::Reading;
+pub use reading::read_profile;
 pub use score::Scored;
 pub use score::score;
 pub use table::build_table;
+pub use writing::write_profile;
 pub use zones::list_zones;
 ghost use mathlib.Core.List.{[], _∷_};
 ghost use Rattle.model.specs.Model.{pagesPerHour};
-ghost use Rattle.codec.specs.Layout.{Reads, Writes};
+ghost use Rattle.reading.specs.Reading.{Reads};
+ghost use Rattle.writing.specs.Writing.{Writes};
 ghost use Rattle.score.specs.Scoring.{Scores};
 ghost use Rattle.choose.specs.Choice.{Chosen};
 ghost use Rattle.zones.specs.Zones.{Listed};
@@ -39,7 +40,7 @@ ghost use Rattle.planner.specs.ForC.{CountsForC, LeavesForC};
 pub extern "C" fn charopleth_read(bytes: &[u8], values: &mut [u32; 41]) -> u64
     ensures { λ r. ⌜ LeavesForC (Reads (now (bytes .entry))) (λ a. a .verdict) (λ a. numbersOf (a .profile)) (now (values .entry)) r (now (values .exit)) ⌝ }
 {
-    let r = codec::read_profile(bytes);
+    let r = reading::read_profile(bytes);
     let v = r.verdict;
     let Verdict::Sound = v else {
         return exchange::result(v);
@@ -54,7 +55,7 @@ pub extern "C" fn charopleth_read(bytes: &[u8], values: &mut [u32; 41]) -> u64
 pub extern "C" fn charopleth_write(n: u32, jobs: &[u32; 40], room: &mut [u8]) -> u64
     ensures { λ r. ⌜ CountsForC (λ a. Writes (profileIn n (now (jobs .entry))) (now (room .entry)) a (now (room .exit))) r ⌝ }
 {
-    let c = codec::write_profile(exchange::profile(n, jobs), room);
+    let c = writing::write_profile(exchange::profile(n, jobs), room);
     exchange::counted(c)
 }
 

@@ -15,7 +15,8 @@ use Rattle.model.specs.declared.Profile.{Profile}
 use Rattle.model.specs.Model.{seconds, jobsOf, entries, ValidJobs, Valid, PermittedAfter, need}
 use Rattle.codec.specs.Packing.{bits, pack, recut}
 use Rattle.codec.specs.Layout.{byteWidths}
-use Rattle.codec.specs.Rows.{rowBytes, withRow, tableWidths, tableRow}
+use Rattle.codec.specs.RowWords.{rowBytes, withRow}
+use Rattle.codec.specs.Rows.{tableWidths, tableRow}
 use Rattle.codec.proofs.Rows.{row-of-words, row-in, length-row}
 use Rattle.stairs.specs.Stairs.{Stair, stair}
 use Rattle.stairs.specs.Rows.{highWord, lowWord, needIn, lowIn, stairsIn}

@@ -14,7 +14,7 @@ use Rattle.choose.specs.declared.Choice.{Choice}
 use Rattle.choose.specs.Choice.{answered, refused}
 use Rattle.walk.specs.Walk.{start, walk}
 use Rattle.choose.specs.Found.{Found, nothing, found, pick}
-use Rattle.codec.specs.Rows.{rowBytes, withRow}
+use Rattle.codec.specs.RowWords.{rowBytes, withRow}
 use Rattle.stairs.specs.Rows.{lowIn}
 
 -- The rows up to what was found: those whose need is below its need, then itself.

@@ -11,7 +11,7 @@ use lib.Seq.{getD-take, getD-drop, take-at, drop-at, drop-drop, drop-append-add,
 use Rattle.model.specs.Model.{entries}
 use Rattle.codec.specs.Packing.{bits, pack, recut}
 use Rattle.codec.specs.Layout.{byteWidths}
-use Rattle.codec.specs.Rows.{rowBytes, withRow}
+use Rattle.codec.specs.RowWords.{rowBytes, withRow}
 use Rattle.codec.proofs.Packing.{length-recut}
 use Rattle.codec.proofs.Rows.{row-of-words, row-in}
 use Rattle.zonewalk.specs.Zone.{Zone}
