@@ -37,7 +37,7 @@ use Rattle.zones.proofs.OneOutcome.{list-zones-one-outcome}
 use Rattle.table.specs.Table.{tableBytes, buildVerdict}
 use Rattle.table.proofs.Outcome.{rowsOf as tableOf, are-rows, none-of}
 use Rattle.table.proofs.OneOutcome.{build-table-one-outcome}
-use Rattle.lookup.specs.Table.{rowsIn}
+use Rattle.tablerows.specs.Table.{rowsIn}
 use Rattle.lookup.specs.Lookup.{lookupVerdict, lastWithin, answerPlace}
 use Rattle.lookup.proofs.OneOutcome.{locate-one-outcome}
 use Rattle.cases.proofs.Cases.{Case, permitting, choosing, scoring, listing, building, lookingUp, Right}

@@ -13,8 +13,8 @@ use Rattle.zonewalk.specs.Listing.{climb as climbUp, upTo as upToLast, unlessEm
 use Rattle.zones.specs.Zones.{rowsOf}
 use Rattle.table.specs.Table.{tableBytes}
 use Rattle.table.specs.Descent.{upTo, descent}
-use Rattle.lookup.specs.Table.{rowFields}
-use Rattle.lookup.specs.Lookup.{allows, placeRight, placesRight, follows, rowRight, firstBad, tableVerdict, lookupVerdict, lastWithin}
+use Rattle.tablerows.specs.Table.{rowFields, allows, follows}
+use Rattle.lookup.specs.Lookup.{placeRight, placesRight, rowRight, firstBad, tableVerdict, lookupVerdict, lastWithin}
 use Rattle.cases.proofs.Cases.{Case, Right, cases}
 use Rattle.cases.proofs.Anew.{choiceFor, scoreFor, counted, roomy, countFor, bytesFor, anew, anew-right}
 

@@ -17,7 +17,7 @@ use Rattle.model.proofs.Verdicts.{sound-passes, beside-sound}
 use Rattle.score.specs.Scoring.{firstUnpermitted, scoreVerdict}
 use Rattle.score.proofs.Permission.{permitted-sound}
 use Rattle.table.specs.Table.{tableBytes}
-use Rattle.lookup.specs.Table.{rowsIn, periodsAt}
+use Rattle.tablerows.specs.Table.{rowsIn, periodsAt}
 use Rattle.lookup.proofs.Laid.{Laid, AllPermitted, length-table, row-member, few-jobs, start-at, list-at, loss-at}
 use Rattle.listing.specs.declared.Listing.{Listing}
 use Rattle.listing.specs.Lines.{headerLine, rowLine, lineOfRow, lineAt}

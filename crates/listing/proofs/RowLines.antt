@@ -18,10 +18,10 @@ use Rattle.codec.specs.Rows.{tableWidths}
 use Rattle.score.specs.declared.Scored.{Scored}
 use Rattle.score.specs.Scoring.{scoreVerdict, Scores}
 use Rattle.score.proofs.Permission.{sound-permitted, scorable}
-use Rattle.lookup.specs.declared.TableRow.{TableRow}
-use Rattle.lookup.specs.Table.{rowsIn}
-use Rattle.lookup.specs.Cut.{rowOf, rowAt}
-use Rattle.lookup.proofs.Cutting.{fields-of-words}
+use Rattle.tablerows.specs.declared.TableRow.{TableRow}
+use Rattle.tablerows.specs.Table.{rowsIn}
+use Rattle.tablerows.specs.Cut.{rowOf, rowAt}
+use Rattle.tablerows.proofs.Cutting.{fields-of-words}
 use Rattle.listing.specs.Lines.{rowLine, lineOfRow}
 use Rattle.listing.specs.Writing.{Printable}
 

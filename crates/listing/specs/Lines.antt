@@ -18,7 +18,7 @@ use Rattle.reading.specs.declared.Reading.{Reading}
 use Rattle.reading.specs.Reading.{Reads}
 use Rattle.score.specs.Scoring.{scoreVerdict}
 use Rattle.table.specs.Table.{Built}
-use Rattle.lookup.specs.Table.{rowsIn, startAt, periodsAt, lossAt}
+use Rattle.tablerows.specs.Table.{rowsIn, startAt, periodsAt, lossAt}
 use Rattle.listing.specs.declared.Listing.{Listing}
 
 -- A text as bytes: the codes of its characters.

@@ -100,7 +100,7 @@ fn row_line(p: Profile, table: &[u8], k: usize, text: &mut [u8; 80]) -> usize
         return 0;
     }
     let words = codec::get_row(table, k);
-    let row = lookup::cut_row(words.high, words.low);
+    let row = tablerows::cut_row(words.high, words.low);
     let periods = row.periods;
     let scored = score::score(p, periods);
     let v = scored.verdict;

@@ -12,7 +12,7 @@ use Rattle.model.specs.declared.Profile.{Profile}
 use Rattle.model.specs.declared.Verdict.the-variants.{Sound, Budget, Row}
 use Rattle.model.specs.Model.{refuseIf}
 use Rattle.model.proofs.Verdicts.{test-passed}
-use Rattle.lookup.specs.Table.{rowsIn, startAt}
+use Rattle.tablerows.specs.Table.{rowsIn, startAt}
 use Rattle.lookup.specs.Lookup.{firstBad, tableVerdict}
 
 -- a length that is a positive multiple of 16

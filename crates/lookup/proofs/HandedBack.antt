@@ -15,7 +15,7 @@ use Rattle.codec.proofs.Bytes.{Bytes}
 use Rattle.choose.specs.declared.Choice.{Choice}
 use Rattle.choose.specs.Choice.{Chosen}
 use Rattle.table.specs.Table.{Built}
-use Rattle.lookup.specs.Table.{rowsIn}
+use Rattle.tablerows.specs.Table.{rowsIn}
 use Rattle.lookup.specs.Lookup.{lastWithin, LooksUp}
 use Rattle.lookup.proofs.Finding.{found-answers}
 use Rattle.lookup.proofs.Laid.{few-jobs, table-is-bytes}

@@ -6,14 +6,12 @@ use mathlib.Core.Bool.{Bool, true, false, cond, _&&_}
 use Prim.Native.Nat.{ℕ, suc, _+_, _-_, _≤_, _<_}
 use native.Mathlib.Omega.{arith}
 use lib.ListN.{getD}
-use lib.Dec.{eqb}
 use borrow.Author.Tests.{eq-eqb, ne-eqb}
 use Rattle.model.specs.declared.Seconds.{Seconds}
 use Rattle.model.specs.declared.Profile.{Profile}
 use Rattle.model.specs.Model.{seconds}
-use Rattle.lookup.specs.Table.{startAt, periodsAt, needAt, lossAt}
-use Rattle.lookup.specs.Lookup.{placeRight, placesRight, follows, rowRight, firstBad}
-use Rattle.lookup.specs.Checks.{zerosFrom}
+use Rattle.tablerows.specs.Table.{startAt, periodsAt, needAt, lossAt, follows}
+use Rattle.lookup.specs.Lookup.{placeRight, placesRight, rowRight, firstBad}
 
 -- the rows from the k-th on, of n
 module _ (p : Profile) (bytes : List ℕ) (k n : ℕ) where
@@ -62,23 +60,3 @@ module _ (p : Profile) (ts : List Seconds) (before : Seconds) (i : ℕ) (less : 
 
   pub good-place : placeRight p i before (getD ts i (seconds 0)) ≡ true → placesRight p ts i before (8 - i) ≡ placesRight p ts (i + 1) (getD ts i (seconds 0)) (8 - (i + 1))
   good-place e = one-place ∙ ap (λ (t : Bool). t && placesRight p ts (i + 1) (getD ts i (seconds 0)) (8 - (i + 1))) e
-
--- the zeros from the i-th place on, of eight
-module _ (ts : List Seconds) (i : ℕ) where
-  one-checked : i < 8 → zerosFrom ts i (8 - i) ≡ eqb (getD ts i (seconds 0) .0) 0 && zerosFrom ts (i + 1) (8 - (i + 1))
-  unfolding zerosFrom
-  one-checked less =
-      let e : 8 - i ≡ suc (8 - (i + 1)) = omega arith in
-      ap (zerosFrom ts i) e
-
-  pub not-zero : i < 8 → (getD ts i (seconds 0) .0 ≡ 0 → ⊥) → zerosFrom ts i (8 - i) ≡ false
-  not-zero less h = one-checked less ∙ ap (λ (t : Bool). t && zerosFrom ts (i + 1) (8 - (i + 1))) (ne-eqb (getD ts i (seconds 0) .0) 0 h)
-
-  pub one-zero : i < 8 → getD ts i (seconds 0) .0 ≡ 0 → zerosFrom ts i (8 - i) ≡ zerosFrom ts (i + 1) (8 - (i + 1))
-  one-zero less h = one-checked less ∙ ap (λ (t : Bool). t && zerosFrom ts (i + 1) (8 - (i + 1))) (eq-eqb (getD ts i (seconds 0) .0) 0 h)
-
-  pub no-zeros : 8 ≤ i → zerosFrom ts i (8 - i) ≡ true
-  unfolding zerosFrom
-  no-zeros h =
-      let e : 8 - i ≡ 0 = omega arith in
-      ap (zerosFrom ts i) e

@@ -21,7 +21,7 @@ use Rattle.choose.specs.Choice.{padded}
 use Rattle.table.specs.Table.{tableBytes}
 use Rattle.table.proofs.Best.{need-small}
 use Rattle.table.proofs.TableRows.{getD-padded, same-entries, period-to}
-use Rattle.lookup.specs.Table.{rowFields, startAt, periodsAt, lossAt}
+use Rattle.tablerows.specs.Table.{rowFields, startAt, periodsAt, lossAt}
 
 -- One row.
 

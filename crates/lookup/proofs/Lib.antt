@@ -1,5 +1,4 @@
 pub mod Chain
-pub mod Cutting
 pub mod Finding
 pub mod Formed
 pub mod HandedBack
@@ -10,7 +9,6 @@ pub mod LookedUp
 pub mod OneOutcome
 pub mod OnlyTable
 pub mod Places
-pub mod Rates
 pub mod RowsRead
 pub mod TableFormed
 pub mod Turns

@@ -3,7 +3,7 @@
 -- Assumes nothing.
 use mathlib.Core.Path.{_≡_, refl, _∙_, sym, ap, subst}
 use mathlib.Core.List.{List, []}
-use Prim.Native.Nat.{ℕ, zero, suc, _+_, _*_, _-_, _^_}
+use Prim.Native.Nat.{ℕ, zero, suc, _+_, _*_, _-_}
 use native.Mathlib.Omega.{arith}
 use lib.ListN.{length, take, drop, length-drop}
 use lib.Seq.{length-take-le}
@@ -16,11 +16,7 @@ use Rattle.model.specs.declared.Verdict.{Verdict}
 use Rattle.model.specs.declared.Verdict.the-variants.{Sound}
 use Rattle.model.specs.Model.{numberOf}
 use Rattle.model.proofs.Verdicts.{Refuses, beside-sound, beside-refusal, sound-of-zero}
-use Rattle.codec.specs.Packing.{unpack}
-use Rattle.codec.specs.Rows.{tableWidths}
-use Rattle.lookup.specs.declared.TableRow.{TableRow}
-use Rattle.lookup.specs.Cut.{rowOf}
-use Rattle.lookup.specs.Table.{rowsIn}
+use Rattle.tablerows.specs.Table.{rowsIn}
 use Rattle.lookup.specs.Lookup.{lastWithin, LooksUp, Locates, Tells}
 use Rattle.lookup.proofs.Finding.{found-answers}
 
@@ -33,9 +29,6 @@ judge-lookup-one-outcome p bytes b one other = one ∙ sym other
 
 pub locate-one-outcome : (p : Profile) (bytes : List ℕ) (b : PagesPerHour) {r s : Counted} → Locates p bytes b r → Locates p bytes b s → r ≡ s
 locate-one-outcome p bytes b one other = λ i. record { verdict = (one .verdict ∙ sym (other .verdict)) i; count = (one .count ∙ sym (other .count)) i }
-
-pub cut-row-one-outcome : (high low : ℕ) {r s : TableRow} → r ≡ rowOf (unpack tableWidths (high * 2 ^ 64 + low)) → s ≡ rowOf (unpack tableWidths (high * 2 ^ 64 + low)) → r ≡ s
-cut-row-one-outcome high low one other = one ∙ sym other
 
 -- on the same inputs: a refusal and the empty part, or no refusal and the sixteen bytes of a row
 module _ (p : Profile) (bytes : List ℕ) (lies : ℕ × ℕ) (b : PagesPerHour) {r : List ℕ} {at : ℕ × ℕ} {v : Verdict} (part : LooksUp p bytes lies b r at) (told : Tells p bytes b v) where

@@ -24,7 +24,8 @@ use Rattle.table.proofs.Best.{need-small}
 use Rattle.table.proofs.Descent.{descent-table}
 use Rattle.table.proofs.OneOutcome.{table-one}
 use Rattle.table.proofs.Reading.{table-answers}
-use Rattle.lookup.specs.Table.{rowsIn, startAt, WellFormed, Answers}
+use Rattle.tablerows.specs.Table.{rowsIn, startAt}
+use Rattle.lookup.specs.Table.{WellFormed, Answers}
 use Rattle.lookup.specs.Lookup.{lastWithin}
 use Rattle.lookup.proofs.Formed.{passes-formed}
 use Rattle.lookup.proofs.Finding.{found-answers, one-answers}

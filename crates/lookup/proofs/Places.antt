@@ -15,8 +15,9 @@ use Rattle.model.specs.declared.Job.{Job}
 use Rattle.model.specs.declared.Profile.{Profile}
 use Rattle.model.specs.Model.{seconds, noJob, entries, jobsOf, periodsOf, Allowed, PermittedAfter, Permitted}
 use Rattle.model.proofs.Entries.{entries-step, entries-end}
-use Rattle.lookup.specs.Lookup.{allows, placeRight, placesRight}
-use Rattle.lookup.specs.Checks.{zerosFrom}
+use Rattle.tablerows.specs.Table.{allows}
+use Rattle.tablerows.specs.Checks.{zerosFrom}
+use Rattle.lookup.specs.Lookup.{placeRight, placesRight}
 
 pub both-true : (a : Bool) {b : Bool} → (a && b) ≡ true → (a ≡ true) × (b ≡ true)
 both-true true e = (refl, e)

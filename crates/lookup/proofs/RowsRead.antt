@@ -20,7 +20,8 @@ use Rattle.codec.proofs.Packing.{Within, recut-back, length-recut}
 use Rattle.codec.proofs.Bytes.{Bytes, within-split}
 use Rattle.table.specs.Table.{Rising, tableBytes}
 use Rattle.table.proofs.TableRows.{same-entries}
-use Rattle.lookup.specs.Table.{rowsIn, rowFields, startAt, periodsAt, GoodAlone, WellFormed}
+use Rattle.tablerows.specs.Table.{rowsIn, rowFields, startAt, periodsAt}
+use Rattle.lookup.specs.Table.{GoodAlone, WellFormed}
 use Rattle.lookup.proofs.Laid.{row-bits, all-entries}
 
 -- Bytes and fields.

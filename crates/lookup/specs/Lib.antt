@@ -1,4 +1,2 @@
-pub mod Checks
-pub mod Cut
 pub mod Lookup
 pub mod Table

@@ -1,24 +1,20 @@
 -- What looking a budget up answers (document 01, The table and Refusal numbers): the checks as tests, in their order, and the row found.
--- That they say what Table does is proved in proofs/Formed and proofs/Finding. Cited by public contracts. Assumes nothing.
+-- The tests of one row, `allows` and `follows`, stand with its fields in crate tablerows, specs/Table.antt. That all say what
+-- specs/Table.antt here does is proved in proofs/Formed and proofs/Finding. Cited by public contracts. Assumes nothing.
 use mathlib.Core.Path.{_≡_}
 use mathlib.Core.List.{List, []}
-use mathlib.Core.Bool.{Bool, true, not, cond, _&&_, _||_}
+use mathlib.Core.Bool.{Bool, true, not, cond, _&&_}
 use Prim.Native.Nat.{ℕ, zero, suc, _+_, _*_, _-_, _%_}
 use lib.ListN.{length, getD, take, drop}
 use lib.Dec.{eqb, ltb, leb}
 use Rattle.model.specs.declared.Seconds.{Seconds}
 use Rattle.model.specs.declared.PagesPerHour.{PagesPerHour}
-use Rattle.model.specs.declared.Job.{Job}
 use Rattle.model.specs.declared.Profile.{Profile}
 use Rattle.model.specs.declared.Counted.{Counted}
 use Rattle.model.specs.declared.Verdict.{Verdict}
 use Rattle.model.specs.declared.Verdict.the-variants.{Sound, Budget, Row}
 use Rattle.model.specs.Model.{seconds, noJob, refuseIf, orElse, ifSound, verdictOf}
-use Rattle.lookup.specs.Table.{rowsIn, startAt, periodsAt, needAt, lossAt}
-
--- Whether a job allows a period after the period `before`: in its interval, and a whole multiple (Quantities).
-unfoldable pub allows : Job → Seconds → Seconds → Bool
-allows j before t = not (ltb (t .0) (j .lo .0)) && (not (ltb (j .hi .0) (t .0)) && eqb (t .0 % before .0) 0)
+use Rattle.tablerows.specs.Table.{rowsIn, startAt, periodsAt, needAt, lossAt, allows, follows}
 
 -- Whether the period at place i of a row is right: its job allows it, or it is 0 beyond n (The table).
 unfoldable pub placeRight : Profile → ℕ → Seconds → Seconds → Bool
@@ -28,10 +24,6 @@ placeRight p i before t = cond (ltb i (p .n)) (allows (getD (p .jobs) i noJob) b
 unfoldable pub placesRight : Profile → List Seconds → ℕ → Seconds → ℕ → Bool
 placesRight p ts i before zero = true
 placesRight p ts i before (suc m) = placeRight p i before (getD ts i (seconds 0)) && placesRight p ts (i + 1) (getD ts i (seconds 0)) m
-
--- Whether row k, of this start and loss, may follow one of that start and loss; the first follows none (The table).
-unfoldable pub follows : ℕ → PagesPerHour → ℕ → PagesPerHour → ℕ → Bool
-follows k startBefore lossBefore start loss = eqb k 0 || (ltb (startBefore .0) (start .0) && ltb loss lossBefore)
 
 -- Whether row k is good by itself and after the one before it (The table).
 unfoldable pub rowRight : Profile → List ℕ → ℕ → Bool

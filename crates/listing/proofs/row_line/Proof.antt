@@ -4,7 +4,7 @@ use Prim.Native.Nat.{ℕ}
 use mathlib.Core.Path.{_≡_, sym, subst}
 use mathlib.Core.List.{List}
 use Rattle.model.proofs.Verdicts.{refuses}
-use Rattle.lookup.specs.Cut.{rowAt}
+use Rattle.tablerows.specs.Cut.{rowAt}
 use Rattle.listing.specs.Writing.{Puts}
 use Rattle.listing.proofs.Putting.{put-none}
 use Rattle.listing.proofs.RowLines.{row-is, scored-printable, no-such-row, periods-refused, line-there}

@@ -9,7 +9,7 @@ use borrow.Author.Needs.{needs}
 use borrow.Author.Tests.{not-true, not-false}
 use Rattle.model.specs.Model.{seconds, noJob, Valid}
 use Rattle.model.proofs.Validity.{job-valid-at}
-use Rattle.lookup.specs.Lookup.{allows}
+use Rattle.tablerows.specs.Table.{allows}
 use Rattle.lookup.proofs.Places.{allowed}
 use Rattle.lookup.proofs.Turns.{RowsLeft, PlacesLeft, Scanned, first-rows, first-places, pages-fit, loss-fits, place-off, next-place, zeros-decide, scanned-row, no-more, place-fails, start-fails, order-fails, next-row}
 use Rattle.lookup.proofs.first_bad_row.Statement.{statement}

@@ -5,7 +5,7 @@ use mathlib.Core.Path.{_≡_, _∙_, ap, sym}
 use native.Mathlib.Omega.{arith}
 use borrow.Author.Needs.{needs}
 use Rattle.model.specs.declared.PagesPerHour.{PagesPerHour}
-use Rattle.lookup.specs.Table.{rowsIn}
+use Rattle.tablerows.specs.Table.{rowsIn}
 use Rattle.lookup.specs.Lookup.{lastWithin}
 use Rattle.lookup.proofs.Finding.{last-found, last-before, last-none}
 use Rattle.lookup.proofs.last_within.Statement.{statement}

@@ -7,7 +7,7 @@ use native.Mathlib.Omega.{arith}
 use lib.ListN.{length, take, drop}
 use Rattle.model.specs.declared.Verdict.the-variants.{Sound}
 use Rattle.model.proofs.Verdicts.{refuses, beside-sound, beside-refusal}
-use Rattle.lookup.specs.Table.{rowsIn}
+use Rattle.tablerows.specs.Table.{rowsIn}
 use Rattle.lookup.specs.Lookup.{lookupVerdict, lastWithin, answerPlace}
 use Rattle.lookup.proofs.Finding.{found-answers}
 use borrow.Author.Needs.{needs}

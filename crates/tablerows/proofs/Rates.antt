@@ -16,7 +16,7 @@ use Rattle.model.specs.Model.{pagesPerHour, noJob, cost, ValidJob, rate, jobLos
 use Rattle.model.proofs.Bounds.{mostLoss, mostRate, rate-bound, rate-falls}
 use Rattle.walk.specs.Steps.{lossAt, LossFits}
 use Rattle.walk.proofs.Held.{square-fits, loss-fits, loss-is}
-use Rattle.lookup.specs.Checks.{Fastest}
+use Rattle.tablerows.specs.Checks.{Fastest}
 
 pub one-rate : {p : Profile} {rates : List PagesPerHour} {k : ℕ} (r : PagesPerHour) → k < 8 → r ≡ rate (getD (p .jobs) k noJob) (getD (p .jobs) k noJob .lo) → Fastest p k rates → Fastest p (k + 1) (set rates k r)
 one-rate {p} {rates} {k} r room e f =

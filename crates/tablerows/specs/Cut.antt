@@ -1,10 +1,10 @@
--- A table row as the code holds it. Only `rowOf` is cited by a public contract, that of `cut_row`. Assumes nothing.
+-- A table row as the code holds it. Cited by the contracts of `cut_row` and `row_at`. Assumes nothing.
 use mathlib.Core.List.{List, map}
 use Prim.Native.Nat.{ℕ}
 use lib.ListN.{getD, drop}
 use Rattle.model.specs.Model.{seconds, pagesPerHour}
-use Rattle.lookup.specs.declared.TableRow.{TableRow}
-use Rattle.lookup.specs.Table.{rowFields}
+use Rattle.tablerows.specs.declared.TableRow.{TableRow}
+use Rattle.tablerows.specs.Table.{rowFields}
 
 -- The start and the periods among a row's fields.
 abbrev pub rowOf : List ℕ → TableRow

@@ -1,13 +1,13 @@
--- `lookup::cut_row` meets its contract: quotients and remainders of the two words are those of the whole row.
+-- `tablerows::cut_row` meets its contract: quotients and remainders of the two words are those of the whole row.
 -- Assumes nothing.
 use borrow.Author.Needs.{needs}
 use mathlib.Core.Path.{sym, ap}
 use native.Mathlib.Nat.{lt-trans}
 use lib.Dec.{lit<}
-use Rattle.lookup.specs.Cut.{rowOf}
-use Rattle.lookup.proofs.Cutting.{third-small, cut-words}
-use Rattle.lookup.proofs.cut_row.Statement.{statement}
-use Rattle.lookup.proofs.cut_row.Tie as tie
+use Rattle.tablerows.specs.Cut.{rowOf}
+use Rattle.tablerows.proofs.Cutting.{third-small, cut-words}
+use Rattle.tablerows.proofs.cut_row.Statement.{statement}
+use Rattle.tablerows.proofs.cut_row.Tie as tie
 
 mul-t3 : tie.Need-mul-t3
 mul-t3 c = search needs

@@ -1,12 +1,12 @@
--- `lookup::zeros_from` meets its contract: before each turn the answer is that of the places from k on.
+-- `tablerows::zeros_from` meets its contract: before each turn the answer is that of the places from k on.
 -- Assumes nothing.
 use Prim.Native.Nat.{_-_}
 use mathlib.Core.Path.{_≡_, refl, _∙_, sym}
-use Rattle.lookup.specs.Checks.{zerosFrom}
-use Rattle.lookup.proofs.Judging.{no-zeros, one-zero, not-zero}
+use Rattle.tablerows.specs.Checks.{zerosFrom}
+use Rattle.tablerows.proofs.Zeros.{no-zeros, one-zero, not-zero}
 use borrow.Author.Needs.{needs}
-use Rattle.lookup.proofs.zeros_from.Statement.{statement}
-use Rattle.lookup.proofs.zeros_from.Tie as tie
+use Rattle.tablerows.proofs.zeros_from.Statement.{statement}
+use Rattle.tablerows.proofs.zeros_from.Tie as tie
 
 abbrev Inv-loop : tie.InvT-loop
 Inv-loop i periods k₀ k = zerosFrom periods i (8 - i) ≡ zerosFrom periods k (8 - k)

@@ -1,10 +1,10 @@
--- `lookup::allowed` meets its contract: each `return` is one case of `allows`.
+-- `tablerows::allowed` meets its contract: each `return` is one case of `allows`.
 -- Assumes nothing.
 use borrow.Author.Tests.{lt-ltb, le-ltb}
-use Rattle.lookup.specs.Lookup.{allows}
+use Rattle.tablerows.specs.Table.{allows}
 use borrow.Author.Needs.{needs}
-use Rattle.lookup.proofs.allowed.Statement.{statement}
-use Rattle.lookup.proofs.allowed.Tie as tie
+use Rattle.tablerows.proofs.allowed.Statement.{statement}
+use Rattle.tablerows.proofs.allowed.Tie as tie
 
 returns : tie.Need-returns
 unfolding allows

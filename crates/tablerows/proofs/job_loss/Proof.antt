@@ -1,11 +1,11 @@
--- `lookup::job_loss` meets its contract: the rates are the definition's, and the bound on a job's loss keeps every product small.
+-- `tablerows::job_loss` meets its contract: the rates are the definition's, and the bound on a job's loss keeps every product small.
 -- Assumes nothing.
 use native.Mathlib.Omega.{arith}
 use Rattle.model.proofs.Bounds.{rate-falls}
-use Rattle.lookup.proofs.Rates.{slower-squared, slower-weighed, weighed-is}
+use Rattle.tablerows.proofs.Rates.{slower-squared, slower-weighed, weighed-is}
 use borrow.Author.Needs.{needs}
-use Rattle.lookup.proofs.job_loss.Statement.{statement}
-use Rattle.lookup.proofs.job_loss.Tie as tie
+use Rattle.tablerows.proofs.job_loss.Statement.{statement}
+use Rattle.tablerows.proofs.job_loss.Tie as tie
 
 rate-at-requires : tie.Need-rate-at-requires
 rate-at-requires c κs = search needs

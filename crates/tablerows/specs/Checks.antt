@@ -1,4 +1,4 @@
--- What the checks of a row go by. Cited by the contracts of private functions only. Assumes nothing.
+-- What the checks of a row go by. Cited by the contracts of `fastest_rates` and `zeros_from`. Assumes nothing.
 use mathlib.Core.Path.{_≡_}
 use mathlib.Core.List.{List}
 use mathlib.Core.Bool.{Bool, true, _&&_}

@@ -11,7 +11,7 @@ use Rattle.codec.specs.Packing.{bits, unpack, recut}
 use Rattle.codec.specs.RowWords.{wordsAt}
 use Rattle.codec.specs.Rows.{tableWidths}
 use Rattle.codec.proofs.Rows.{row-words}
-use Rattle.lookup.specs.Table.{rowFields}
+use Rattle.tablerows.specs.Table.{rowFields}
 
 module _ (h l m : ℕ) (small : l < 2 ^ 64) where
   top : (h * 2 ^ 64 + l) / 2 ^ (64 + m) ≡ h / 2 ^ m

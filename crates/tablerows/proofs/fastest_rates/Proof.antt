@@ -1,15 +1,15 @@
--- `lookup::fastest_rates` meets its contract: before each turn the rates of the first k jobs are in.
+-- `tablerows::fastest_rates` meets its contract: before each turn the rates of the first k jobs are in.
 -- Assumes nothing.
 use Prim.Native.Nat.{ℕ, _-_, _≤_}
 use mathlib.Core.Path.{_≡_, refl, subst}
 use native.Mathlib.Nat.{not-suc-le-zero}
 use native.Mathlib.Omega.{arith}
 use Rattle.model.proofs.Validity.{job-valid-at}
-use Rattle.lookup.specs.Checks.{Fastest}
-use Rattle.lookup.proofs.Rates.{one-rate}
+use Rattle.tablerows.specs.Checks.{Fastest}
+use Rattle.tablerows.proofs.Rates.{one-rate}
 use borrow.Author.Needs.{needs}
-use Rattle.lookup.proofs.fastest_rates.Statement.{statement}
-use Rattle.lookup.proofs.fastest_rates.Tie as tie
+use Rattle.tablerows.proofs.fastest_rates.Statement.{statement}
+use Rattle.tablerows.proofs.fastest_rates.Tie as tie
 
 abbrev Inv-loop : tie.InvT-loop
 Inv-loop p n rates₀ k₀ rates k = (k ≤ n) × Fastest p k rates

@@ -1,14 +1,14 @@
--- `lookup::start_at` meets its contract: the first field of a row is its first word's upper half.
+-- `tablerows::start_at` meets its contract: the first field of a row is its first word's upper half.
 -- Assumes nothing.
 use Prim.Native.Nat.{_/_, _^_, _<_}
 use mathlib.Core.Path.{_∙_, ap, subst}
 use native.Mathlib.Omega.{arith}
 use Rattle.model.specs.Model.{pagesPerHour}
 use Rattle.codec.specs.declared.RowWords.{RowWords}
-use Rattle.lookup.proofs.Cutting.{start-of-words}
+use Rattle.tablerows.proofs.Cutting.{start-of-words}
 use borrow.Author.Needs.{needs}
-use Rattle.lookup.proofs.start_at.Statement.{statement}
-use Rattle.lookup.proofs.start_at.Tie as tie
+use Rattle.tablerows.proofs.start_at.Statement.{statement}
+use Rattle.tablerows.proofs.start_at.Tie as tie
 
 get-row-requires : tie.Need-get-row-requires
 get-row-requires c κs = search needs

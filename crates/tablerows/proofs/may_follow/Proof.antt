@@ -1,10 +1,10 @@
--- `lookup::may_follow` meets its contract: each `return` is one case of `follows`.
+-- `tablerows::may_follow` meets its contract: each `return` is one case of `follows`.
 -- Assumes nothing.
 use native.Mathlib.Omega.{arith}
 use borrow.Author.Tests.{lt-ltb, le-ltb, eq-eqb, ne-eqb}
-use Rattle.lookup.specs.Lookup.{follows}
-use Rattle.lookup.proofs.may_follow.Statement.{statement}
-use Rattle.lookup.proofs.may_follow.Tie as tie
+use Rattle.tablerows.specs.Table.{follows}
+use Rattle.tablerows.proofs.may_follow.Statement.{statement}
+use Rattle.tablerows.proofs.may_follow.Tie as tie
 
 returns : tie.Need-returns
 unfolding follows

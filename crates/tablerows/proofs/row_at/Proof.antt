@@ -1,15 +1,15 @@
--- `lookup::row_at` meets its contract: the row's two words, cut into its fields.
+-- `tablerows::row_at` meets its contract: the row's two words, cut into its fields.
 -- Assumes nothing.
 use Prim.Native.Nat.{_*_, _+_, _^_}
 use mathlib.Core.Path.{_∙_, ap}
 use Rattle.codec.specs.declared.RowWords.{RowWords}
 use Rattle.codec.specs.Packing.{unpack}
 use Rattle.codec.specs.Rows.{tableWidths}
-use Rattle.lookup.specs.Cut.{rowOf}
-use Rattle.lookup.proofs.Cutting.{fields-of-words}
+use Rattle.tablerows.specs.Cut.{rowOf}
+use Rattle.tablerows.proofs.Cutting.{fields-of-words}
 use borrow.Author.Needs.{needs}
-use Rattle.lookup.proofs.row_at.Statement.{statement}
-use Rattle.lookup.proofs.row_at.Tie as tie
+use Rattle.tablerows.proofs.row_at.Statement.{statement}
+use Rattle.tablerows.proofs.row_at.Tie as tie
 
 get-row-requires : tie.Need-get-row-requires
 get-row-requires c κs = search needs

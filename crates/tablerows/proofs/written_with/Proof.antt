@@ -1,12 +1,12 @@
--- `lookup::written_with` meets its contract: what is written in one period within the hour, taken over to another, stays small.
+-- `tablerows::written_with` meets its contract: what is written in one period within the hour, taken over to another, stays small.
 -- Assumes nothing.
 use Prim.Native.Nat.{_*_, _/_, _≤_}
 use native.Mathlib.Nat.{le-trans, mul-le-mul, div-le-self}
 use native.Mathlib.Omega.{arith}
 use Rattle.model.proofs.Bounds.{cost-bound}
 use borrow.Author.Needs.{needs}
-use Rattle.lookup.proofs.written_with.Statement.{statement}
-use Rattle.lookup.proofs.written_with.Tie as tie
+use Rattle.tablerows.proofs.written_with.Statement.{statement}
+use Rattle.tablerows.proofs.written_with.Tie as tie
 
 small : (c : tie.Start) → c .args .written * (c .args .t .0 / c .args .before .0) ≤ 1887379200 * 3600
 small c =

@@ -1,11 +1,11 @@
--- `lookup::rate_at` meets its contract: the quotient is the definition's.
+-- `tablerows::rate_at` meets its contract: the quotient is the definition's.
 -- Assumes nothing.
 use Prim.Native.Nat.{ℕ, _*_, _/_}
 use mathlib.Core.Path.{ap}
 use Rattle.model.specs.Model.{pagesPerHour, rate}
 use borrow.Author.Needs.{needs}
-use Rattle.lookup.proofs.rate_at.Statement.{statement}
-use Rattle.lookup.proofs.rate_at.Tie as tie
+use Rattle.tablerows.proofs.rate_at.Statement.{statement}
+use Rattle.tablerows.proofs.rate_at.Tie as tie
 
 run-pages-requires : tie.Need-run-pages-requires
 run-pages-requires c κs = search needs

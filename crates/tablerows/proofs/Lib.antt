@@ -1,0 +1,4 @@
+pub mod Cutting
+pub mod OneOutcome
+pub mod Rates
+pub mod Zeros
