@@ -38,7 +38,7 @@ use Rattle.table.specs.Table.{tableBytes, buildVerdict}
 use Rattle.table.proofs.Outcome.{rowsOf as tableOf, are-rows, none-of}
 use Rattle.table.proofs.OneOutcome.{build-table-one-outcome}
 use Rattle.tablerows.specs.Table.{rowsIn}
-use Rattle.lookup.specs.Lookup.{lookupVerdict, lastWithin, answerPlace}
+use Rattle.lookup.specs.Lookup.{lookupVerdict, lastWithin}
 use Rattle.lookup.proofs.OneOutcome.{locate-one-outcome}
 use Rattle.cases.proofs.Cases.{Case, permitting, choosing, scoring, listing, building, lookingUp, Right}
 
@@ -141,7 +141,7 @@ anew (lookingUp p table b answer bytes) =
     lookingUp p table b (counted v (k + 1)) (ifSound v (take 16 (drop (16 * k) table)) [])
 
 pub anew-right : (c : Case) → Right (anew c)
-unfolding anew counted listVerdict buildVerdict answerPlace
+unfolding anew counted listVerdict buildVerdict
 anew-right (permitting p verdict lists) = (
   refl,
   λ sound ts.

@@ -18,7 +18,7 @@ use Rattle.choose.specs.declared.Choice.{Choice}
 use Rattle.choose.specs.Choice.{padded, refused, Chosen}
 use Rattle.zones.specs.Zones.{Listed}
 use Rattle.table.specs.Table.{Built}
-use Rattle.lookup.specs.Lookup.{LooksUp, Locates, Tells}
+use Rattle.lookup.specs.Lookup.{lookupVerdict, LooksUp, Locates}
 
 -- What is asked of a profile, then what must come out: the answer, and the bytes of the rows written or of the row handed back.
 pub data Case : Type 0 where
@@ -40,7 +40,7 @@ Right (building p answer bytes) =
     (old : List ℕ) → answer .count ≤ length old / 16 → (r : Counted) (new : List ℕ) → Built p old r new → (r ≡ answer) × (new ≡ bytes ++ drop (16 * answer .count) old)
 Right (lookingUp p table b answer bytes) =
     ((r : Counted) → Locates p table (pagesPerHour b) r → r ≡ answer)
-    × ((v : Verdict) → Tells p table (pagesPerHour b) v → v ≡ answer .verdict)
+    × ((v : Verdict) → v ≡ lookupVerdict p table (pagesPerHour b) → v ≡ answer .verdict)
     × ((lies at : ℕ × ℕ) (part : List ℕ) → LooksUp p table lies (pagesPerHour b) part at → (part ≡ bytes) × (at ≡ (lies .0, lies .1 + 16 * (answer .count - 1))))
 
 abbrev job : ℕ → ℕ → ℕ → ℕ → ℕ → Job

@@ -15,7 +15,7 @@ use Rattle.model.specs.declared.Verdict.the-variants.{Sound}
 use Rattle.model.specs.Model.{verdictOf}
 use Rattle.model.proofs.Verdicts.{both-sound}
 use Rattle.tablerows.specs.Table.{rowsIn, startAt}
-use Rattle.lookup.specs.Table.{Answers}
+use Rattle.lookup.specs.Formed.{Answers}
 use Rattle.lookup.specs.Lookup.{lastWithin, lookupVerdict}
 use Rattle.lookup.proofs.Chain.{some-row, sound-answered}
 

@@ -18,7 +18,7 @@ use Rattle.model.specs.Model.{seconds, Valid, numberOf, detailOf, refuseIf, ver
 use Rattle.model.proofs.Validity.{valid-sound}
 use Rattle.model.proofs.Verdicts.{sound-passes}
 use Rattle.tablerows.specs.Table.{rowsIn, startAt, periodsAt, needAt, lossAt, follows}
-use Rattle.lookup.specs.Table.{GoodAfter, GoodRow, WellFormed}
+use Rattle.lookup.specs.Formed.{GoodAfter, GoodRow, WellFormed}
 use Rattle.lookup.specs.Lookup.{placesRight, rowRight, firstBad, tableVerdict, lookupVerdict}
 use Rattle.lookup.proofs.Chain.{Whole, no-bytes, part-left, bad-named, all-good}
 use Rattle.lookup.proofs.Places.{both-true, both-hold, places-permitted, places-zeros, places-back}

@@ -25,7 +25,7 @@ use Rattle.table.specs.Table.{TableOf, tableBytes, buildVerdict, Built}
 use Rattle.table.proofs.Best.{best-at-need, needs-follow}
 use Rattle.table.proofs.Reading.{first-start}
 use Rattle.tablerows.specs.Table.{rowsIn, startAt, periodsAt, lossAt}
-use Rattle.lookup.specs.Table.{WellFormed, Answers}
+use Rattle.lookup.specs.Formed.{WellFormed, Answers}
 use Rattle.lookup.specs.Lookup.{lookupVerdict, lastWithin}
 use Rattle.lookup.proofs.Formed.{formed-verdict}
 use Rattle.lookup.proofs.Finding.{found-answers, one-answers}

@@ -17,21 +17,21 @@ use Rattle.model.specs.declared.Verdict.the-variants.{Sound}
 use Rattle.model.specs.Model.{numberOf}
 use Rattle.model.proofs.Verdicts.{Refuses, beside-sound, beside-refusal, sound-of-zero}
 use Rattle.tablerows.specs.Table.{rowsIn}
-use Rattle.lookup.specs.Lookup.{lastWithin, LooksUp, Locates, Tells}
+use Rattle.lookup.specs.Lookup.{lookupVerdict, lastWithin, LooksUp, Locates}
 use Rattle.lookup.proofs.Finding.{found-answers}
 
 -- a part is the same bytes at the same place
 pub lookup-one-outcome : (p : Profile) (bytes : List ℕ) (lies : ℕ × ℕ) (b : PagesPerHour) {r s : List ℕ} {at other-at : ℕ × ℕ} → LooksUp p bytes lies b r at → LooksUp p bytes lies b s other-at → (r ≡ s) × (at ≡ other-at)
 lookup-one-outcome p bytes lies b one other = (one .holds ∙ sym (other .holds), one .place ∙ sym (other .place))
 
-pub judge-lookup-one-outcome : (p : Profile) (bytes : List ℕ) (b : PagesPerHour) {r s : Verdict} → Tells p bytes b r → Tells p bytes b s → r ≡ s
+pub judge-lookup-one-outcome : (p : Profile) (bytes : List ℕ) (b : PagesPerHour) {r s : Verdict} → r ≡ lookupVerdict p bytes b → s ≡ lookupVerdict p bytes b → r ≡ s
 judge-lookup-one-outcome p bytes b one other = one ∙ sym other
 
 pub locate-one-outcome : (p : Profile) (bytes : List ℕ) (b : PagesPerHour) {r s : Counted} → Locates p bytes b r → Locates p bytes b s → r ≡ s
 locate-one-outcome p bytes b one other = λ i. record { verdict = (one .verdict ∙ sym (other .verdict)) i; count = (one .count ∙ sym (other .count)) i }
 
 -- on the same inputs: a refusal and the empty part, or no refusal and the sixteen bytes of a row
-module _ (p : Profile) (bytes : List ℕ) (lies : ℕ × ℕ) (b : PagesPerHour) {r : List ℕ} {at : ℕ × ℕ} {v : Verdict} (part : LooksUp p bytes lies b r at) (told : Tells p bytes b v) where
+module _ (p : Profile) (bytes : List ℕ) (lies : ℕ × ℕ) (b : PagesPerHour) {r : List ℕ} {at : ℕ × ℕ} {v : Verdict} (part : LooksUp p bytes lies b r at) (told : v ≡ lookupVerdict p bytes b) where
   pub refused-empty : Refuses v → r ≡ []
   refused-empty h = part .holds ∙ sym (beside-refusal _ _ h told)
 
@@ -50,7 +50,7 @@ refuses-of v none a = positive (numberOf v) refl
     positive (suc n) e = subst T (sym (lt-ltb 0 (numberOf v) (omega arith))) tt
 
 -- the part is empty exactly when the verdict is a refusal
-pub lookups-agree : (p : Profile) (bytes : List ℕ) (lies : ℕ × ℕ) (b : PagesPerHour) {r : List ℕ} {at : ℕ × ℕ} {v : Verdict} → LooksUp p bytes lies b r at → Tells p bytes b v → (Refuses v → r ≡ []) × (r ≡ [] → Refuses v)
+pub lookups-agree : (p : Profile) (bytes : List ℕ) (lies : ℕ × ℕ) (b : PagesPerHour) {r : List ℕ} {at : ℕ × ℕ} {v : Verdict} → LooksUp p bytes lies b r at → v ≡ lookupVerdict p bytes b → (Refuses v → r ≡ []) × (r ≡ [] → Refuses v)
 lookups-agree p bytes lies b {r} {at} {v} part told = (refused-empty p bytes lies b part told, refuses-of v (λ (e : v ≡ Sound) (none : r ≡ []). eqb-false 16 0 refl (sym (sound-sixteen p bytes lies b part told e) ∙ ap length none)))
 
 -- where a row is handed back, it is the row of the number told beside it

@@ -25,7 +25,7 @@ use Rattle.table.proofs.Descent.{descent-table}
 use Rattle.table.proofs.OneOutcome.{table-one}
 use Rattle.table.proofs.Reading.{table-answers}
 use Rattle.tablerows.specs.Table.{rowsIn, startAt}
-use Rattle.lookup.specs.Table.{WellFormed, Answers}
+use Rattle.lookup.specs.Formed.{WellFormed, Answers}
 use Rattle.lookup.specs.Lookup.{lastWithin}
 use Rattle.lookup.proofs.Formed.{passes-formed}
 use Rattle.lookup.proofs.Finding.{found-answers, one-answers}

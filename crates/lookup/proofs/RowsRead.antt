@@ -21,7 +21,7 @@ use Rattle.codec.proofs.Bytes.{Bytes, within-split}
 use Rattle.table.specs.Table.{Rising, tableBytes}
 use Rattle.table.proofs.TableRows.{same-entries}
 use Rattle.tablerows.specs.Table.{rowsIn, rowFields, startAt, periodsAt}
-use Rattle.lookup.specs.Table.{GoodAlone, WellFormed}
+use Rattle.lookup.specs.Formed.{GoodAlone, WellFormed}
 use Rattle.lookup.proofs.Laid.{row-bits, all-entries}
 
 -- Bytes and fields.

@@ -14,7 +14,7 @@ use Rattle.choose.specs.Choice.{padded}
 use Rattle.table.specs.Table.{TableOf, tableBytes}
 use Rattle.table.proofs.TableRows.{getD-padded}
 use Rattle.tablerows.specs.Table.{rowsIn, startAt, periodsAt}
-use Rattle.lookup.specs.Table.{GoodAlone, GoodAfter, GoodRow, WellFormed}
+use Rattle.lookup.specs.Formed.{GoodAlone, GoodAfter, GoodRow, WellFormed}
 use Rattle.lookup.proofs.Laid.{Laid, length-table, row-member, permitted-length, few-jobs, laid-alone, start-at, periods-at, list-at, loss-at}
 use Rattle.lookup.proofs.InOrder.{table-permitted, starts-rise, losses-fall-along}
 

@@ -1,6 +1,6 @@
 -- What looking a budget up answers (document 01, The table and Refusal numbers): the checks as tests, in their order, and the row found.
--- The tests of one row, `allows` and `follows`, stand with its fields in crate tablerows, specs/Table.antt. That all say what
--- specs/Table.antt here does is proved in proofs/Formed and proofs/Finding. Cited by public contracts. Assumes nothing.
+-- A row's fields and the tests of one row, `allows` and `follows`, stand in crate tablerows, specs/Table.antt. That all these say what
+-- specs/Formed.antt does is proved in proofs/Formed and proofs/Finding. Cited by public contracts. Assumes nothing.
 use mathlib.Core.Path.{_≡_}
 use mathlib.Core.List.{List, []}
 use mathlib.Core.Bool.{Bool, true, not, cond, _&&_}
@@ -54,20 +54,13 @@ unfoldable pub lastWithin : List ℕ → PagesPerHour → ℕ → ℕ
 lastWithin bytes b zero = 0
 lastWithin bytes b (suc m) = cond (leb (startAt bytes m .0) (b .0)) m (lastWithin bytes b m)
 
--- Where the answer begins: at the row that answers, or at the table's own start beside a refusal.
-unfoldable pub answerPlace : Profile → List ℕ → PagesPerHour → ℕ
-answerPlace p bytes b = ifSound (lookupVerdict p bytes b) (16 * lastWithin bytes b (rowsIn bytes)) 0
-
--- What `lookup` may hand back of a lent table (The table): these bytes, and where they lie, as a block and a place in it.
+-- What `lookup` may hand back of a lent table (The table): these bytes, and where they lie, as a block and a place in it;
+-- beside a refusal none, at the table's own start.
 pub record LooksUp (p : Profile) (bytes : List ℕ) (lies : ℕ × ℕ) (b : PagesPerHour) (part : List ℕ) (at : ℕ × ℕ) : Type 0 where
   pub holds : part ≡ ifSound (lookupVerdict p bytes b) (take 16 (drop (16 * lastWithin bytes b (rowsIn bytes)) bytes)) []
-  pub place : at ≡ (lies .0, lies .1 + answerPlace p bytes b)
+  pub place : at ≡ (lies .0, lies .1 + ifSound (lookupVerdict p bytes b) (16 * lastWithin bytes b (rowsIn bytes)) 0)
 
 -- What `locate` may answer: the verdict, and the number of the row that answers, counted from 1, 0 beside a refusal.
 pub record Locates (p : Profile) (bytes : List ℕ) (b : PagesPerHour) (r : Counted) : Type 0 where
   pub verdict : r .verdict ≡ lookupVerdict p bytes b
   pub count : r .count ≡ ifSound (lookupVerdict p bytes b) (lastWithin bytes b (rowsIn bytes) + 1) 0
-
--- What `judge_lookup` may answer.
-abbrev pub Tells : Profile → List ℕ → PagesPerHour → Verdict → Type 0
-Tells p bytes b v = v ≡ lookupVerdict p bytes b

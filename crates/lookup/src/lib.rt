@@ -1,8 +1,8 @@
 // Looking a budget up in a table: the row that answers it, as the caller's own bytes, or why there is none.
 //
-// specs/Lookup.antt says what is answered; the rows, their fields and the tests of one row stand in crate tablerows,
-// specs/Table.antt. specs/Table.antt here says when a table is well formed and which row answers. Nothing is assumed, and no
-// public function has a `requires`.
+// specs/Lookup.antt says what is answered; a table's rows, their fields and the tests of one row stand in crate tablerows,
+// specs/Table.antt. specs/Formed.antt says when a table is well formed and which row answers; theorems cite it and no contract
+// does. Nothing is assumed, and no public function has a `requires`.
 use model::Counted;
 use model::PagesPerHour;
 use model::Profile;
@@ -12,7 +12,7 @@ ghost use mathlib.Core.Path.{_≡_};
 ghost use denote.Ref.{ptr};
 ghost use Rattle.model.specs.Model.{Valid};
 ghost use Rattle.tablerows.specs.Table.{rowsIn};
-ghost use Rattle.lookup.specs.Lookup.{firstBad, lastWithin, LooksUp, Locates, Tells};
+ghost use Rattle.lookup.specs.Lookup.{firstBad, lookupVerdict, lastWithin, LooksUp, Locates};
 
 // The row that answers a budget, as those sixteen bytes of the lent table; an empty part on a refusal.
 pub fn lookup<'a>(p: Profile, table: &'a [u8], budget: PagesPerHour) -> &'a [u8]
@@ -47,7 +47,7 @@ pub fn locate(p: Profile, table: &[u8], budget: PagesPerHour) -> Counted
 
 // Whether there is such a row, or the number and detail of the refusal.
 pub fn judge_lookup(p: Profile, table: &[u8], budget: PagesPerHour) -> Verdict
-    ensures { λ r. ⌜ Tells p (now (table .entry)) budget r ⌝ }
+    ensures { λ r. ⌜ r ≡ lookupVerdict p (now (table .entry)) budget ⌝ }
 {
     let v = model::judge(p);
     let Verdict::Sound = v else {

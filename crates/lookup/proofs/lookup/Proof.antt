@@ -8,7 +8,7 @@ use lib.ListN.{length, take, drop}
 use Rattle.model.specs.declared.Verdict.the-variants.{Sound}
 use Rattle.model.proofs.Verdicts.{refuses, beside-sound, beside-refusal}
 use Rattle.tablerows.specs.Table.{rowsIn}
-use Rattle.lookup.specs.Lookup.{lookupVerdict, lastWithin, answerPlace}
+use Rattle.lookup.specs.Lookup.{lookupVerdict, lastWithin}
 use Rattle.lookup.proofs.Finding.{found-answers}
 use borrow.Author.Needs.{needs}
 use Rattle.lookup.proofs.lookup.Statement.{statement}
@@ -43,7 +43,6 @@ part-result-end : tie.Need-part-result-end
 part-result-end c = search needs
 
 returns : tie.Need-returns
-unfolding answerPlace
 returns c =
     let l = c .before .before in
     let h = refuses (l .locate .result .verdict) (c .before .match .keys2) in
@@ -69,7 +68,6 @@ part-result-end-2 : tie.Need-part-result-end-2
 part-result-end-2 c = omega (arith, located c .inside)
 
 returns-2 : tie.Need-returns-2
-unfolding answerPlace
 returns-2 c =
     let l = located (c .before) in
     let a = c .before .before .before .before .before .args in

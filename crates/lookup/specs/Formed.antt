@@ -1,5 +1,5 @@
--- When a table is well formed and which of its rows answers (document 01, The table): what proofs/Formed.antt and proofs/Finding.antt
--- show the tests of specs/Lookup.antt to mean. Assumes nothing.
+-- When a table is well formed and which of its rows answers (document 01, The table). Cited by theorems and by no contract:
+-- proofs/Formed.antt and proofs/Finding.antt show that this is what the tests of specs/Lookup.antt mean. Assumes nothing.
 use mathlib.Core.Path.{_≡_}
 use mathlib.Core.List.{List}
 use Prim.Native.Nat.{ℕ, _+_, _%_, _≤_, _<_}
