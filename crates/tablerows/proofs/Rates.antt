@@ -1,9 +1,9 @@
 -- The rates at the shortest periods, one job after the other, and a loss by them.
 -- Assumes nothing.
-use mathlib.Core.Path.{_≡_, _∙_, subst, sym}
+use mathlib.Core.Path.{_≡_, refl, _∙_, subst, sym}
 use mathlib.Core.List.{List}
 use mathlib.Core.Logic.{⊎-elim}
-use Prim.Native.Nat.{ℕ, _+_, _*_, _-_, _≤_, _<_}
+use Prim.Native.Nat.{ℕ, _+_, _≤_, _<_}
 use native.Mathlib.Nat.{eq-or-lt-of-le}
 use native.Mathlib.Omega.{arith}
 use lib.ListN.{getD, set, length-set}
@@ -13,9 +13,8 @@ use Rattle.model.specs.declared.PagesPerHour.{PagesPerHour}
 use Rattle.model.specs.declared.Job.{Job}
 use Rattle.model.specs.declared.Profile.{Profile}
 use Rattle.model.specs.Model.{pagesPerHour, noJob, cost, ValidJob, rate, jobLoss}
-use Rattle.model.proofs.Bounds.{mostLoss, mostRate, rate-bound, rate-falls}
+use Rattle.model.proofs.Bounds.{rate-bound, rate-falls}
 use Rattle.walk.specs.Steps.{lossAt, LossFits}
-use Rattle.walk.proofs.Held.{square-fits, loss-fits, loss-is}
 use Rattle.tablerows.specs.Checks.{Fastest}
 
 pub one-rate : {p : Profile} {rates : List PagesPerHour} {k : ℕ} (r : PagesPerHour) → k < 8 → r ≡ rate (getD (p .jobs) k noJob) (getD (p .jobs) k noJob .lo) → Fastest p k rates → Fastest p (k + 1) (set rates k r)
@@ -28,23 +27,12 @@ one-rate {p} {rates} {k} r room e f =
           (eq-or-lt-of-le (omega arith));
     }
 
--- the loss of a job by its rates, and the numbers on the way to it
+-- the loss of a job by its numbers, which fit
 module _ (j : Job) (t : Seconds) (v : ValidJob j) (above : j .lo .0 ≤ t .0) where
-  abbrev Slower : ℕ
-  Slower = rate j (j .lo) .0 - rate j t .0
-
-  by-rates : LossFits (j .stiffness) (rate j (j .lo) .0) (cost j) (t .0)
+  pub by-rates : LossFits (j .stiffness) (rate j (j .lo) .0) (cost j) (t .0)
   unfolding rate
   by-rates = record { weight-to = v .stiffness-to; most-to = rate-bound j (j .lo .0) v; pages-to = omega arith; from = omega (arith, v .lo-from); slower = rate-falls j (v .lo-from) above }
 
-  pub slower-squared : Slower * Slower ≤ mostRate * mostRate
-  unfolding rate
-  slower-squared = square-fits by-rates
-
-  pub slower-weighed : j .stiffness * (Slower * Slower) ≤ mostLoss
-  unfolding rate
-  slower-weighed = loss-fits by-rates
-
-  pub weighed-is : j .stiffness * (Slower * Slower) ≡ jobLoss j t
-  unfolding rate jobLoss lossAt
-  weighed-is = loss-is (j .stiffness) (rate j (j .lo) .0) (cost j) (t .0)
+pub loss-by-rates : (j : Job) (t : Seconds) → lossAt (j .stiffness) (rate j (j .lo) .0) (cost j) (t .0) ≡ jobLoss j t
+unfolding rate jobLoss lossAt
+loss-by-rates j t = refl

@@ -119,8 +119,7 @@ pub fn job_loss(j: Job, fastest: PagesPerHour, t: Seconds) -> u64
     requires { ⌜ ValidJob j × (j .lo .0 ≤ t .0) × (fastest ≡ rate j (j .lo)) ⌝ }
     ensures { λ r. ⌜ r ≡ jobLoss j t ⌝ }
 {
-    let slower = (fastest.0 - rate_at(j, t).0) as u64;
-    (j.stiffness as u64) * (slower * slower)
+    walk::job_loss(j.stiffness, fastest, run_pages(j), t)
 }
 
 // The rate of a job at a period, rounded down.
