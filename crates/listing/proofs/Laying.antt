@@ -20,7 +20,8 @@ use Rattle.table.specs.Table.{tableBytes}
 use Rattle.tablerows.specs.Table.{rowsIn, periodsAt}
 use Rattle.lookup.proofs.Laid.{Laid, AllPermitted, length-table, row-member, few-jobs, start-at, list-at, loss-at}
 use Rattle.listing.specs.declared.Listing.{Listing}
-use Rattle.listing.specs.Lines.{headerLine, rowLine, lineOfRow, lineAt}
+use Rattle.lines.specs.Lines.{headerLine, rowLine}
+use Rattle.listing.specs.Listing.{lineOfRow, lineAt}
 use Rattle.listing.specs.Text.{rowLines, linesTo}
 
 -- one row more

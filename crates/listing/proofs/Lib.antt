@@ -1,12 +1,9 @@
-pub mod Decimals
 pub mod Laying
 pub mod Numbers
 pub mod OneOutcome
 pub mod OneText
-pub mod Periods
 pub mod Preparing
 pub mod Printing
-pub mod Putting
 pub mod RowLines
 pub mod Settled
 pub mod Verdicts

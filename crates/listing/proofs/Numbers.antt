@@ -21,7 +21,8 @@ use Rattle.table.specs.Descent.{upTo, descent, rowsBelow, allBudgets}
 use Rattle.table.proofs.Descent.{descent-table, no-rows}
 use Rattle.lookup.proofs.Laid.{few-jobs}
 use Rattle.listing.specs.declared.Listing.{Listing}
-use Rattle.listing.specs.Lines.{ascii, digitsOf, decimal, spaced, spacedPeriods, headerLine, rowLine, Prepares}
+use Rattle.lines.specs.Lines.{ascii, digitsOf, decimal, spaced, spacedPeriods, headerLine, rowLine}
+use Rattle.listing.specs.Listing.{Prepares}
 use Rattle.listing.specs.Text.{rowLines, listingVerdict, textOf, Text, linesTo}
 use Rattle.listing.proofs.OneText.{text-one}
 use Rattle.listing.proofs.WholeText.{lines-are-text}

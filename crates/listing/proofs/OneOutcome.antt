@@ -10,7 +10,7 @@ use Rattle.reading.proofs.OneOutcome.{read-profile-one-outcome}
 use Rattle.table.specs.Table.{Built}
 use Rattle.table.proofs.OneOutcome.{build-table-one-outcome}
 use Rattle.listing.specs.declared.Listing.{Listing}
-use Rattle.listing.specs.Lines.{Prepares, Prints}
+use Rattle.listing.specs.Listing.{Prepares, Prints}
 
 -- a listing, as the reading and the building decide it
 abbrev listing : Reading → Counted → Listing

@@ -19,7 +19,7 @@ use Rattle.reading.proofs.OneOutcome.{read-profile-one-outcome}
 use Rattle.table.specs.Table.{TableOf, buildVerdict, Built}
 use Rattle.table.proofs.OneOutcome.{table-one}
 use Rattle.table.proofs.Outcome.{rowsOf, handed-on}
-use Rattle.listing.specs.Lines.{refusalLine}
+use Rattle.lines.specs.Lines.{refusalLine}
 use Rattle.listing.specs.Text.{listingVerdict, textOf, Text}
 use Rattle.listing.proofs.Verdicts.{sound-or-refused, refused-first, refused-next}
 

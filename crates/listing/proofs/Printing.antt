@@ -11,9 +11,10 @@ use Rattle.model.specs.declared.Verdict.the-variants.{Sound}
 use Rattle.model.proofs.Verdicts.{Refuses, beside-sound, beside-refusal}
 use Rattle.io.specs.Counts.{Counts}
 use Rattle.listing.specs.declared.Listing.{Listing}
-use Rattle.listing.specs.Lines.{refusalLine, headerLine, lineOfRow, lineAt, Prints}
-use Rattle.listing.specs.Writing.{Puts}
-use Rattle.listing.proofs.Putting.{put-front}
+use Rattle.lines.specs.Lines.{refusalLine, headerLine}
+use Rattle.listing.specs.Listing.{lineOfRow, lineAt, Prints}
+use Rattle.lines.specs.Writing.{Puts}
+use Rattle.lines.proofs.Putting.{put-front}
 
 module _ (l : Listing) (table : List ℕ) where
   module _ (h : Refuses (l .verdict)) where

@@ -22,8 +22,9 @@ use Rattle.tablerows.specs.declared.TableRow.{TableRow}
 use Rattle.tablerows.specs.Table.{rowsIn}
 use Rattle.tablerows.specs.Cut.{rowOf, rowAt}
 use Rattle.tablerows.proofs.Cutting.{fields-of-words}
-use Rattle.listing.specs.Lines.{rowLine, lineOfRow}
-use Rattle.listing.specs.Writing.{Printable}
+use Rattle.lines.specs.Lines.{rowLine}
+use Rattle.listing.specs.Listing.{lineOfRow}
+use Rattle.lines.specs.Writing.{Printable}
 
 -- the row that is cut out of the table's words
 pub row-is : (table : List ℕ) (k : ℕ) {w : RowWords} {row : TableRow} → k < rowsIn table → w ≡ wordsAt table k → row ≡ rowOf (unpack tableWidths (w .high * 2 ^ 64 + w .low)) → row ≡ rowAt table k

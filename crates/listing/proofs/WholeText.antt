@@ -13,7 +13,8 @@ use Rattle.model.proofs.Verdicts.{Refuses, sound-passes, both-sound, beside-sou
 use Rattle.table.specs.Table.{buildVerdict}
 use Rattle.lookup.proofs.Laid.{Laid, AllPermitted}
 use Rattle.listing.specs.declared.Listing.{Listing}
-use Rattle.listing.specs.Lines.{refusalLine, headerLine, lineAt, Prepares}
+use Rattle.lines.specs.Lines.{refusalLine, headerLine}
+use Rattle.listing.specs.Listing.{lineAt, Prepares}
 use Rattle.listing.specs.Text.{rowLines, listingVerdict, textOf, Text, linesTo}
 use Rattle.listing.proofs.Laying.{sound-lines}
 use Rattle.listing.proofs.Preparing.{read-zeros, zeros-build}

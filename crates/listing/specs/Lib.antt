@@ -1,3 +1,2 @@
-pub mod Lines
+pub mod Listing
 pub mod Text
-pub mod Writing

@@ -15,7 +15,8 @@ use Rattle.reading.specs.declared.Reading.{Reading}
 use Rattle.reading.specs.Reading.{Reads}
 use Rattle.table.specs.Table.{TableOf, buildVerdict}
 use Rattle.listing.specs.declared.Listing.{Listing}
-use Rattle.listing.specs.Lines.{refusalLine, headerLine, rowLine, lineAt}
+use Rattle.lines.specs.Lines.{refusalLine, headerLine, rowLine}
+use Rattle.listing.specs.Listing.{lineAt}
 
 -- The lines of rows: the need of each as its start, its loss and its periods.
 unfoldable pub rowLines : List Job → List (List Seconds) → List ℕ

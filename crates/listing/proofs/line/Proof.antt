@@ -1,7 +1,7 @@
 -- `listing::line` meets its contract: each way out puts the line that is due there.
 -- Assumes nothing.
 use Rattle.model.proofs.Verdicts.{refuses}
-use Rattle.listing.proofs.Putting.{put-none}
+use Rattle.lines.proofs.Putting.{put-none}
 use Rattle.listing.proofs.Printing.{refusal-first, nothing-more, header-first, rows-end, row-next, printed}
 use borrow.Author.Needs.{needs}
 use Rattle.listing.proofs.line.Statement.{statement}

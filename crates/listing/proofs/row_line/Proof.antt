@@ -5,8 +5,8 @@ use mathlib.Core.Path.{_≡_, sym, subst}
 use mathlib.Core.List.{List}
 use Rattle.model.proofs.Verdicts.{refuses}
 use Rattle.tablerows.specs.Cut.{rowAt}
-use Rattle.listing.specs.Writing.{Puts}
-use Rattle.listing.proofs.Putting.{put-none}
+use Rattle.lines.specs.Writing.{Puts}
+use Rattle.lines.proofs.Putting.{put-none}
 use Rattle.listing.proofs.RowLines.{row-is, scored-printable, no-such-row, periods-refused, line-there}
 use borrow.Author.Needs.{needs}
 use Rattle.listing.proofs.row_line.Statement.{statement}

@@ -1,11 +1,11 @@
--- `listing::put_spaced` meets its contract: a space, then the number.
+-- `lines::put_spaced` meets its contract: a space, then the number.
 -- Assumes nothing.
-use Rattle.listing.specs.Lines.{spaced}
-use Rattle.listing.proofs.Putting.{put-then}
+use Rattle.lines.specs.Lines.{spaced}
+use Rattle.lines.proofs.Putting.{put-then}
 use native.Mathlib.Omega.{arith}
 use borrow.Author.Needs.{needs}
-use Rattle.listing.proofs.put_spaced.Statement.{statement}
-use Rattle.listing.proofs.put_spaced.Tie as tie
+use Rattle.lines.proofs.put_spaced.Statement.{statement}
+use Rattle.lines.proofs.put_spaced.Tie as tie
 
 slice-aggregate-put : tie.Need-slice-aggregate-put
 slice-aggregate-put c = search needs

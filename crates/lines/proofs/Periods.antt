@@ -9,10 +9,10 @@ use lib.ListN.{length, getD}
 use Rattle.model.specs.declared.Seconds.{Seconds}
 use Rattle.model.specs.Model.{seconds, entries}
 use Rattle.model.proofs.Entries.{entries-snoc}
-use Rattle.listing.specs.Lines.{spaced, spacedPeriods}
-use Rattle.listing.specs.Writing.{Puts}
-use Rattle.listing.proofs.Decimals.{spaced-few}
-use Rattle.listing.proofs.Putting.{put-then}
+use Rattle.lines.specs.Lines.{spaced, spacedPeriods}
+use Rattle.lines.specs.Writing.{Puts}
+use Rattle.lines.proofs.Decimals.{spaced-few}
+use Rattle.lines.proofs.Putting.{put-then}
 
 pub period-few : (t : Seconds) → t .0 ≤ 3600 → length (spaced (t .0)) ≤ 5
 period-few t h = spaced-few 3 (t .0) (omega arith)

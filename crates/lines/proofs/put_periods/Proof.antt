@@ -1,16 +1,16 @@
--- `listing::put_periods` meets its contract: after i turns i periods are put.
+-- `lines::put_periods` meets its contract: after i turns i periods are put.
 -- Assumes nothing.
 use Prim.Native.Nat.{ℕ, _-_}
 use mathlib.Core.Path.{_≡_, subst}
 use lib.ListN.{getD}
 use Rattle.model.specs.Model.{seconds, entries}
-use Rattle.listing.specs.Lines.{spacedPeriods}
-use Rattle.listing.specs.Writing.{Puts}
-use Rattle.listing.proofs.Periods.{PeriodsPut, period-few, no-period, one-period}
+use Rattle.lines.specs.Lines.{spacedPeriods}
+use Rattle.lines.specs.Writing.{Puts}
+use Rattle.lines.proofs.Periods.{PeriodsPut, period-few, no-period, one-period}
 use native.Mathlib.Omega.{arith}
 use borrow.Author.Needs.{needs}
-use Rattle.listing.proofs.put_periods.Statement.{statement}
-use Rattle.listing.proofs.put_periods.Tie as tie
+use Rattle.lines.proofs.put_periods.Statement.{statement}
+use Rattle.lines.proofs.put_periods.Tie as tie
 
 abbrev Inv-loop : tie.InvT-loop
 Inv-loop text₀ at n periods end₀ i₀ text end i = PeriodsPut text₀ at periods n i end text

@@ -1,4 +1,5 @@
--- What this crate's own functions do to a text. No public contract cites this file. Assumes nothing.
+-- What the functions that put a line do to a text. Contracts of inner functions cite this, and those of no entry point.
+-- Assumes nothing.
 use mathlib.Core.Path.{_≡_}
 use mathlib.Core.List.{List}
 use Prim.Native.Nat.{ℕ, _+_, _≤_, _<_}

@@ -1,14 +1,14 @@
--- `listing::put_row` meets its contract: ten digits, twenty-one bytes of loss, forty of periods and the line feed at most.
+-- `lines::put_row` meets its contract: ten digits, twenty-one bytes of loss, forty of periods and the line feed at most.
 -- Assumes nothing.
 use Prim.Native.Nat.{_≤_}
 use lib.ListN.{length}
-use Rattle.listing.specs.Lines.{decimal, spaced, rowLine}
-use Rattle.listing.proofs.Decimals.{decimal-few, spaced-few}
-use Rattle.listing.proofs.Putting.{put-then, put-room}
+use Rattle.lines.specs.Lines.{decimal, spaced, rowLine}
+use Rattle.lines.proofs.Decimals.{decimal-few, spaced-few}
+use Rattle.lines.proofs.Putting.{put-then, put-room}
 use native.Mathlib.Omega.{arith}
 use borrow.Author.Needs.{needs}
-use Rattle.listing.proofs.put_row.Statement.{statement}
-use Rattle.listing.proofs.put_row.Tie as tie
+use Rattle.lines.proofs.put_row.Statement.{statement}
+use Rattle.lines.proofs.put_row.Tie as tie
 
 start-few : (c : tie.After-struct-known) → length (decimal (c .before .before .args .start .0)) ≤ 10
 start-few c = decimal-few 9 (c .before .before .args .start .0) (omega (arith, c .struct-known .given))

@@ -1,14 +1,14 @@
--- `listing::header_line` meets its contract: the words and the numbers, one after the other.
+-- `lines::header_line` meets its contract: the words and the numbers, one after the other.
 -- Assumes nothing.
 use Prim.Native.Nat.{_≤_}
 use lib.ListN.{length}
-use Rattle.listing.specs.Lines.{spaced, headerLine}
-use Rattle.listing.proofs.Decimals.{room-for, number-put}
-use Rattle.listing.proofs.Putting.{put-then}
+use Rattle.lines.specs.Lines.{spaced, headerLine}
+use Rattle.lines.proofs.Decimals.{room-for, number-put}
+use Rattle.lines.proofs.Putting.{put-then}
 use native.Mathlib.Omega.{arith}
 use borrow.Author.Needs.{needs}
-use Rattle.listing.proofs.header_line.Statement.{statement}
-use Rattle.listing.proofs.header_line.Tie as tie
+use Rattle.lines.proofs.header_line.Statement.{statement}
+use Rattle.lines.proofs.header_line.Tie as tie
 
 first-to : (c : tie.After-put-spaced) → c .put-spaced .result ≤ 25
 first-to c = omega (arith, number-put _ (c .put-spaced .ensures), c .before .before .put .ensures .place)

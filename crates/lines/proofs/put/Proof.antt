@@ -1,14 +1,14 @@
--- `listing::put` meets its contract: after k turns the first k bytes are put.
+-- `lines::put` meets its contract: after k turns the first k bytes are put.
 -- Assumes nothing.
 use Prim.Native.Nat.{_≤_, _-_}
 use mathlib.Core.Path.{_≡_, refl, _∙_, ap}
 use lib.ListN.{length, take}
 use lib.Seq.{sets, length-sets, take-all}
-use Rattle.listing.proofs.Putting.{put-one}
+use Rattle.lines.proofs.Putting.{put-one}
 use native.Mathlib.Omega.{arith}
 use borrow.Author.Needs.{needs}
-use Rattle.listing.proofs.put.Statement.{statement}
-use Rattle.listing.proofs.put.Tie as tie
+use Rattle.lines.proofs.put.Statement.{statement}
+use Rattle.lines.proofs.put.Tie as tie
 
 abbrev Inv-loop : tie.InvT-loop
 Inv-loop at bytes out₀ k₀ out k = (k ≤ length bytes) × (out ≡ sets out₀ at (take k bytes))

@@ -7,7 +7,7 @@ use native.Mathlib.Numerals.{add-one}
 use native.Mathlib.Omega.{arith}
 use lib.ListN.{length, getD, take, drop, set, length-append}
 use lib.Seq.{sets, sets-eq, length-sets, take-suc, length-take-le}
-use Rattle.listing.specs.Writing.{Puts}
+use Rattle.lines.specs.Writing.{Puts}
 
 sets-append : (l : List ℕ) (i : ℕ) (w v : List ℕ) → sets (sets l i w) (i + length w) v ≡ sets l i (w ++ v)
 sets-append l i [] v = ap (λ (k : ℕ). sets l k v) (add-zero i)

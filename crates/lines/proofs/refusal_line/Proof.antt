@@ -1,16 +1,16 @@
--- `listing::refusal_line` meets its contract: the word, the number and the detail, one after the other.
+-- `lines::refusal_line` meets its contract: the word, the number and the detail, one after the other.
 -- Assumes nothing.
 use mathlib.Core.Path.{ap₂, subst}
 use mathlib.Core.List.{List, _++_}
 use Prim.Native.Nat.{ℕ, _≤_}
-use Rattle.listing.specs.Lines.{ascii, spaced, refusalLine}
-use Rattle.listing.specs.Writing.{Puts}
-use Rattle.listing.proofs.Decimals.{room-for, number-put}
-use Rattle.listing.proofs.Putting.{put-then}
+use Rattle.lines.specs.Lines.{ascii, spaced, refusalLine}
+use Rattle.lines.specs.Writing.{Puts}
+use Rattle.lines.proofs.Decimals.{room-for, number-put}
+use Rattle.lines.proofs.Putting.{put-then}
 use native.Mathlib.Omega.{arith}
 use borrow.Author.Needs.{needs}
-use Rattle.listing.proofs.refusal_line.Statement.{statement}
-use Rattle.listing.proofs.refusal_line.Tie as tie
+use Rattle.lines.proofs.refusal_line.Statement.{statement}
+use Rattle.lines.proofs.refusal_line.Tie as tie
 
 first-to : (c : tie.After-put-spaced) → c .put-spaced .result ≤ 28
 first-to c = omega (arith, number-put _ (c .put-spaced .ensures), c .before .before .put .ensures .place)

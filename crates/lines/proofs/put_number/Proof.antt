@@ -1,16 +1,16 @@
--- `listing::put_number` meets its contract: the digits that `io::decimal` writes, put.
+-- `lines::put_number` meets its contract: the digits that `io::decimal` writes, put.
 -- Assumes nothing.
 use mathlib.Core.Path.{_≡_, _∙_, ap, subst}
 use mathlib.Core.List.{List}
 use Prim.Native.Nat.{ℕ}
 use lib.ListN.{length, take}
-use Rattle.listing.specs.Lines.{decimal}
-use Rattle.listing.specs.Writing.{Puts}
-use Rattle.listing.proofs.Decimals.{decimal-is}
+use Rattle.lines.specs.Lines.{decimal}
+use Rattle.lines.specs.Writing.{Puts}
+use Rattle.lines.proofs.Decimals.{decimal-is}
 use native.Mathlib.Omega.{arith}
 use borrow.Author.Needs.{needs}
-use Rattle.listing.proofs.put_number.Statement.{statement}
-use Rattle.listing.proofs.put_number.Tie as tie
+use Rattle.lines.proofs.put_number.Statement.{statement}
+use Rattle.lines.proofs.put_number.Tie as tie
 
 digits-are : (c : tie.After-decimal) → take (c .decimal .result) (c .decimal .last .1 .0) ≡ decimal (c .before .before .args .n)
 digits-are c =

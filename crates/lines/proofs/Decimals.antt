@@ -12,8 +12,8 @@ use lib.ListN.{length, length-append}
 use lib.Dec.{ltb}
 use borrow.Author.Tests.{lt-ltb, le-ltb, ltb-false}
 use Rattle.io.specs.Digits.{glyph, digits, Fewest}
-use Rattle.listing.specs.Lines.{digitsOf, decimal, spaced}
-use Rattle.listing.specs.Writing.{Puts}
+use Rattle.lines.specs.Lines.{digitsOf, decimal, spaced}
+use Rattle.lines.specs.Writing.{Puts}
 
 glyph-is : (d : ℕ) → d < 10 → glyph d ≡ 48 + d
 glyph-is d h = ap (λ (t : Bool). cond t (48 + d) (87 + d)) (lt-ltb d 10 h)
