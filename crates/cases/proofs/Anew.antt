@@ -25,9 +25,11 @@ use Rattle.choose.specs.Choice.{refused, Outcome, Chosen}
 use Rattle.walk.specs.Chains.{chains}
 use Rattle.walk.specs.Walk.{start, walk, walkDown}
 use Rattle.walk.proofs.Chains.{multiples-lists, chains-only, chains-all}
-use Rattle.choose.specs.Found.{nothing, pick, none, lessNeed, settle}
+use Rattle.offers.specs.Found.{nothing, pick}
+use Rattle.search.specs.Least.{none, lessNeed}
+use Rattle.choose.specs.Steps.{settle}
 use Rattle.walk.proofs.Falling.{down-lists}
-use Rattle.choose.proofs.Fold.{walk-best}
+use Rattle.search.proofs.Fold.{walk-best}
 use Rattle.choose.proofs.LeastNeed.{walk-least}
 use Rattle.choose.proofs.Settled.{settled}
 use Rattle.choose.proofs.OneOutcome.{choose-one-outcome}

@@ -8,7 +8,9 @@ use Rattle.codec.specs.Rows.{tableRow}
 use Rattle.score.specs.Scoring.{judgePeriod, firstUnpermitted, scoreVerdict}
 use Rattle.walk.specs.Chains.{climb, risingFrom, multiples, descend, fallingFrom, multiplesDown, chainsBy}
 use Rattle.walk.specs.Walk.{visit, walkBy}
-use Rattle.choose.specs.Found.{beats, pick, lessNeed, settle}
+use Rattle.offers.specs.Found.{beats, pick}
+use Rattle.search.specs.Least.{lessNeed}
+use Rattle.choose.specs.Steps.{settle}
 use Rattle.zonewalk.specs.Listing.{climb as climbUp, upTo as upToLast, unlessEmpty, zonesBelow, zonesIn}
 use Rattle.zones.specs.Zones.{rowsOf}
 use Rattle.table.specs.Table.{tableBytes}

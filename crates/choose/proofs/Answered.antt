@@ -13,17 +13,20 @@ use Rattle.model.specs.declared.Verdict.the-variants.{NoPeriods, Budget}
 use Rattle.model.specs.Model.{seconds, pagesPerHour, ValidJobs, PermittedAfter}
 use Rattle.choose.specs.Choice.{refused, Outcome}
 use Rattle.walk.specs.Walk.{start, walk, walkDown}
-use Rattle.choose.specs.Found.{nothing, found, pick, none, least, lessNeed, settle}
+use Rattle.offers.specs.Found.{nothing, found, pick}
+use Rattle.search.specs.Least.{none, least, lessNeed}
 use Rattle.walk.specs.Arrays.{Held}
 use Rattle.walk.specs.Steps.{periodsIn}
-use Rattle.choose.specs.Steps.{noPlan, noNeed, foundIn, leastIn, Lessens, Walks, Small, planIn}
+use Rattle.offers.specs.Steps.{noPlan, foundIn}
+use Rattle.search.specs.Steps.{noNeed, leastIn, Lessens, Walks}
+use Rattle.choose.specs.Steps.{settle, Small, planIn}
 use Rattle.walk.proofs.Falling.{down-lists}
-use Rattle.choose.proofs.Fold.{BestFound, BestOrNone, walk-best}
+use Rattle.search.proofs.Fold.{BestFound, BestOrNone, walk-best}
 use Rattle.choose.proofs.LeastNeed.{LeastOrNone, walk-least}
 use Rattle.choose.proofs.Settled.{settled}
 use Rattle.walk.proofs.Held.{held-valid}
-use Rattle.choose.proofs.Lessening.{some-least, no-least}
-use Rattle.choose.proofs.Stored.{plan-found, no-plan-found}
+use Rattle.search.proofs.Lessening.{some-least, no-least}
+use Rattle.offers.proofs.Stored.{plan-found, no-plan-found}
 
 -- each period that is permitted is within the hour
 permitted-to : (before : Seconds) (js : List Job) (n : ℕ) (xs : List ℕ) → ValidJobs js → PermittedAfter before js (periodsIn n xs) → (k : ℕ) → k < n → getD xs k 0 ≤ 3600

@@ -13,7 +13,7 @@ use Rattle.model.specs.Model.{seconds, pagesPerHour, ValidJobs, Permitted, need
 use Rattle.choose.specs.Choice.{LeastBudget}
 use Rattle.walk.specs.Chains.{chainsBy}
 use Rattle.walk.specs.Walk.{visit, start, walkBy}
-use Rattle.choose.specs.Found.{Least, none, least, lessNeed}
+use Rattle.search.specs.Least.{Least, none, least, lessNeed}
 use Rattle.walk.proofs.Chains.{ListsAllowed, chains-only, chains-all}
 use Rattle.walk.proofs.Walk.{walk-all}
 

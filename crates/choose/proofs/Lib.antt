@@ -1,9 +1,5 @@
 pub mod OneOutcome
-pub mod Updates
-pub mod Fold
 pub mod LeastNeed
+pub mod Planned
 pub mod Settled
-pub mod Lessening
-pub mod Stored
-pub mod Winning
 pub mod Answered

@@ -10,8 +10,10 @@ use Rattle.model.specs.declared.Verdict.the-variants.{Sound}
 use Rattle.model.specs.Model.{pagesPerHour, jobsOf, verdictOf}
 use Rattle.choose.specs.declared.Choice.{Choice}
 use Rattle.choose.specs.Choice.{padded, answered, refused, Chosen, Outcome, given, none-permitted, none-fit}
-use Rattle.choose.specs.Found.{Found, nothing, found, Least, none, least, settle}
-use Rattle.choose.proofs.Fold.{BestOrNone}
+use Rattle.offers.specs.Found.{Found, nothing, found}
+use Rattle.search.specs.Least.{Least, none, least}
+use Rattle.choose.specs.Steps.{settle}
+use Rattle.search.proofs.Fold.{BestOrNone}
 use Rattle.choose.proofs.LeastNeed.{LeastOrNone}
 
 pub settled : (js : List Job) (b : PagesPerHour) (had : Found) (m : Least) → BestOrNone js b had → LeastOrNone js m → Outcome js b (settle had m)

@@ -1,18 +1,18 @@
-// The best periods for a budget: a walk through all permitted lists, cut where floors show that nothing better is ahead.
+// The best periods for a budget: the best plan that a walk through all permitted lists finds, or why there is none.
 //
-// specs/Choice.antt says what may be answered; specs/Found.antt and specs/Steps.antt serve the private functions alone.
+// specs/Choice.antt says what may be answered; specs/Steps.antt serves the private functions alone.
 // Nothing is assumed, and no public function has a `requires`.
 use model::PagesPerHour;
 use model::Profile;
 use model::Seconds;
 use model::Verdict;
+use offers::LOSS;
+use offers::NEED;
+use offers::NO_PLAN;
 ghost use mathlib.Core.Path.{_≡_};
-ghost use mathlib.Core.Bool.{false};
-ghost use Prim.Native.Nat.{_<_, min};
 ghost use Rattle.model.specs.Model.{jobsOf, Valid};
 ghost use Rattle.choose.specs.Choice.{refused, Outcome, Chosen};
-ghost use Rattle.walk.specs.Steps.{NeedFits, Ready, ReadyForCut};
-ghost use Rattle.choose.specs.Steps.{ReadyForNeed, Lessens, LessensNothing, noPlan, Sizes, Keeps, Offers, WinsNothing, Walks, Small, planIn};
+ghost use Rattle.choose.specs.Steps.{Small, planIn};
 
 // What `choose` answers: the periods (zeros beyond n), their need and loss; beside a refusal all zeros.
 pub struct Choice {
@@ -22,14 +22,7 @@ pub struct Choice {
     pub loss: u64,
 }
 
-// Where the best plan has its need and its loss, behind eight periods.
-const NEED: usize = 8;
-
-const LOSS: usize = 9;
-
-// More than any loss, and more than any need: nothing found yet.
-const NO_PLAN: u64 = 0xffff_ffff_ffff_ffff;
-
+// More than any need: nothing found yet.
 const NO_NEED: u32 = 0xffff_ffff;
 
 // The best periods for a budget; the profile's own refusal, then 9, then 10 with the least budget that would do.
@@ -56,7 +49,7 @@ fn choose_sound(p: Profile, budget: PagesPerHour) -> Choice
     let mut periods = [0u32; 8];
     let mut best = [0u64; 10];
     best[LOSS] = NO_PLAN;
-    find_best(
+    search::find_best(
         &seconds,
         &pages,
         &rates,
@@ -73,7 +66,7 @@ fn choose_sound(p: Profile, budget: PagesPerHour) -> Choice
     if best[LOSS] != NO_PLAN {
         return plan(n, &best);
     }
-    let least = least_need(
+    let least = search::least_need(
         &seconds,
         &pages,
         &rates,
@@ -118,226 +111,4 @@ fn refusal(v: Verdict) -> Choice
         need: PagesPerHour(0),
         loss: 0,
     }
-}
-
-// Tries all permitted plans that begin with the first i of `periods`, multiples in rising order, and keeps the best that
-// fits. `step` is the last of these periods; in that time they have `written` so many pages, and they have `lost` so much.
-fn find_best(
-    seconds: &[u32; 16],
-    pages: &[u32; 16],
-    rates: &[u32; 17],
-    stiffnesses: &[u32; 8],
-    i: usize,
-    n: usize,
-    budget: PagesPerHour,
-    step: Seconds,
-    written: u64,
-    lost: u64,
-    periods: &mut [u32; 8],
-    best: &mut [u64; 10],
-)
-    requires { ⌜ Ready (now seconds) (now pages) (now rates) (now stiffnesses) i n step written lost ⌝ }
-    requires { ⌜ Sizes n (now periods) (now best) ⌝ }
-    ensures { λ _. ⌜ Walks (now (seconds .entry)) (now (pages .entry)) (now (rates .entry)) (now (stiffnesses .entry)) i n budget step written lost (now (periods .entry)) (now (periods .exit)) (now (best .entry)) (now (best .exit)) ⌝ }
-{
-    if i == n {
-        offer(n, budget, step, written, lost, periods, best);
-        return;
-    }
-    let lo = seconds[i];
-    let hi = seconds[8 + i];
-    let own = pages[i] as u64;
-    let first = (lo + (step.0 - 1)) / step.0;
-    let mut t = first * step.0;
-    while t <= hi {
-        let here = lost
-            + walk::job_loss(
-                stiffnesses[i],
-                PagesPerHour(rates[i]),
-                pages[8 + i],
-                Seconds(t),
-            );
-        let floor = here
-            + walk::loss_floor(seconds, pages, rates, stiffnesses, i + 1, n, Seconds(t));
-        if best[LOSS] < floor {
-            return;
-        }
-        let a = t / step.0;
-        let next = t + step.0;
-        if walk::repeats(pages, i, a, first) {
-            t = next;
-            continue;
-        }
-        let more = written * (a as u64) + own;
-        if may_win(
-            seconds,
-            rates,
-            i + 1,
-            n,
-            budget,
-            Seconds(t),
-            more,
-            floor,
-            best,
-        ) {
-            periods[i] = t;
-            find_best(
-                seconds,
-                pages,
-                rates,
-                stiffnesses,
-                i + 1,
-                n,
-                budget,
-                Seconds(t),
-                more,
-                here,
-                periods,
-                best,
-            );
-        }
-        t = next;
-    }
-}
-
-// Whether a plan that begins so could be better than the best: jobs i to n are still to come, and the loss is at least
-// `floor`.
-fn may_win(
-    seconds: &[u32; 16],
-    rates: &[u32; 17],
-    i: usize,
-    n: usize,
-    budget: PagesPerHour,
-    t: Seconds,
-    written: u64,
-    floor: u64,
-    best: &[u64; 10],
-) -> bool
-    requires { ⌜ ReadyForCut (now seconds) (now rates) i n t written ⌝ }
-    requires { ⌜ floor < noPlan ⌝ }
-    ensures { λ r. ⌜ (r ≡ false → WinsNothing (now (seconds .entry)) (now (rates .entry)) i n budget t written floor (now (best .entry))) ⌝ }
-{
-    let need_floor = walk::need_of(written, t).0 + rates[8 + i];
-    if budget.0 < need_floor {
-        return false;
-    }
-    if floor == best[LOSS] {
-        if best[NEED] <= need_floor as u64 {
-            return false;
-        }
-    }
-    walk::reaches(seconds, i, n, t)
-}
-
-// One whole plan: kept if it fits the budget and has less loss than the best, or the same loss and less need.
-fn offer(
-    n: usize,
-    budget: PagesPerHour,
-    t: Seconds,
-    written: u64,
-    lost: u64,
-    periods: &[u32; 8],
-    best: &mut [u64; 10],
-)
-    requires { ⌜ NeedFits written t ⌝ }
-    requires { ⌜ lost < noPlan ⌝ }
-    requires { ⌜ Sizes n (now periods) (now best) ⌝ }
-    ensures { λ _. ⌜ Offers n budget t written lost (now (periods .entry)) (now (best .entry)) (now (best .exit)) ⌝ }
-{
-    let need = walk::need_of(written, t);
-    if budget.0 < need.0 {
-        return;
-    }
-    if lost < best[LOSS] {
-        keep(n, need, lost, periods, best);
-        return;
-    }
-    if best[LOSS] < lost {
-        return;
-    }
-    if (need.0 as u64) < best[NEED] {
-        keep(n, need, lost, periods, best);
-    }
-}
-
-// A plan becomes the best.
-fn keep(n: usize, need: PagesPerHour, loss: u64, periods: &[u32; 8], best: &mut [u64; 10])
-    requires { ⌜ Sizes n (now periods) (now best) ⌝ }
-    ensures { λ _. ⌜ Keeps n need loss (now (periods .entry)) (now (best .exit)) ⌝ }
-{
-    let mut k: usize = 0;
-    while k < n {
-        best[k] = wide(periods[k]);
-        k += 1;
-    }
-    best[NEED] = need.0 as u64;
-    best[LOSS] = loss;
-}
-
-// The least need of all permitted plans that begin with i periods, the last of them `step`, and `written` so many pages in
-// that time, or `had` if that is less; largest multiples first.
-fn least_need(
-    seconds: &[u32; 16],
-    pages: &[u32; 16],
-    rates: &[u32; 17],
-    i: usize,
-    n: usize,
-    step: Seconds,
-    written: u64,
-    had: PagesPerHour,
-) -> PagesPerHour
-    requires { ⌜ ReadyForNeed (now seconds) (now pages) (now rates) i n step written ⌝ }
-    ensures { λ r. ⌜ Lessens (now (seconds .entry)) (now (pages .entry)) (now (rates .entry)) i n step written had r ⌝ }
-{
-    if i == n {
-        return smaller(walk::need_of(written, step), had);
-    }
-    let lo = seconds[i];
-    let own = pages[i] as u64;
-    let mut least = had;
-    let mut t = seconds[8 + i] / step.0 * step.0;
-    while lo <= t {
-        let more = written * ((t / step.0) as u64) + own;
-        let next = t - step.0;
-        if may_lessen(seconds, rates, i + 1, n, Seconds(t), more, least) {
-            least = least_need(seconds, pages, rates, i + 1, n, Seconds(t), more, least);
-        }
-        t = next;
-    }
-    least
-}
-
-// Whether a plan that begins so could need less than `had`: jobs i to n are still to come.
-fn may_lessen(
-    seconds: &[u32; 16],
-    rates: &[u32; 17],
-    i: usize,
-    n: usize,
-    t: Seconds,
-    written: u64,
-    had: PagesPerHour,
-) -> bool
-    requires { ⌜ ReadyForCut (now seconds) (now rates) i n t written ⌝ }
-    ensures { λ r. ⌜ (r ≡ false → LessensNothing (now (seconds .entry)) (now (rates .entry)) i n t written had) ⌝ }
-{
-    let floor = walk::need_of(written, t).0 + rates[8 + i];
-    if had.0 <= floor {
-        return false;
-    }
-    walk::reaches(seconds, i, n, t)
-}
-
-fn smaller(a: PagesPerHour, b: PagesPerHour) -> PagesPerHour
-    ensures { λ r. ⌜ r .0 ≡ min (a .0) (b .0) ⌝ }
-{
-    if a.0 < b.0 {
-        return a;
-    }
-    b
-}
-
-fn wide(x: u32) -> u64
-    ensures { λ r. ⌜ r ≡ x ⌝ }
-{
-    x as u64
 }

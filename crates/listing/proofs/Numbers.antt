@@ -14,7 +14,7 @@ use Rattle.codec.specs.Packing.{bits, pack, unpack, recut}
 use Rattle.reading.specs.declared.Reading.{Reading}
 use Rattle.reading.specs.Reading.{headerOf, recordsIn, judgeRecord, judgeHeader, verdictOfBytes, eightJobs, Reads}
 use Rattle.walk.specs.Walk.{walkBy, visit}
-use Rattle.choose.specs.Found.{pick, beats}
+use Rattle.offers.specs.Found.{pick, beats}
 use Rattle.walk.specs.Chains.{multiples, risingFrom, climb}
 use Rattle.table.specs.Table.{TableOf, buildVerdict}
 use Rattle.table.specs.Descent.{upTo, descent, rowsBelow, allBudgets}

@@ -15,10 +15,9 @@ use Rattle.model.specs.Model.{seconds, ValidJobs, Permitted, need, loss, NotAft
 use Rattle.walk.specs.Chains.{chains}
 use Rattle.walk.specs.Walk.{visit, start, walk}
 use Rattle.stairs.specs.Stairs.{Stair, stair, Stairs, noBound, noStairs, covered, among, atMost, enter}
-use Rattle.walk.proofs.Sorted.{Sorted}
+use Rattle.walk.proofs.Sorted.{not-after-self, Sorted}
 use Rattle.walk.proofs.Chains.{multiples-lists, chains-only, chains-all, chains-sorted}
 use Rattle.walk.proofs.Walk.{walk-all}
-use Rattle.choose.proofs.Fold.{not-after-self}
 use Rattle.stairs.proofs.Updates.{Covering, covers}
 use Rattle.stairs.proofs.Order.{among-new, among-some, among-in, among-has}
 use Rattle.stairs.proofs.Ordered.{Ordered, entered, Limited, enter-either}

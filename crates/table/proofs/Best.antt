@@ -13,8 +13,8 @@ use Rattle.model.specs.declared.Job.{Job}
 use Rattle.model.specs.Model.{seconds, cost, ValidJobs, Permitted, lastOf, pagesIn, need, FitsBudget, loss, Best}
 use Rattle.model.proofs.Bounds.{cost-bound, need-bound}
 use Rattle.walk.specs.Walk.{walk, start}
-use Rattle.choose.specs.Found.{Found, nothing, found, pick}
-use Rattle.choose.proofs.Fold.{BestOrNone, walk-best}
+use Rattle.offers.specs.Found.{Found, nothing, found, pick}
+use Rattle.search.proofs.Fold.{BestOrNone, walk-best}
 use Rattle.choose.proofs.OneOutcome.{one-best}
 use Rattle.walk.proofs.Pages.{last-positive}
 use Rattle.table.specs.Table.{TableOf}

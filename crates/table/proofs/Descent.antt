@@ -13,8 +13,8 @@ use Rattle.model.specs.declared.PagesPerHour.{PagesPerHour}
 use Rattle.model.specs.declared.Job.{Job}
 use Rattle.model.specs.Model.{pagesPerHour, ValidJobs, Permitted, need, FitsBudget, Best}
 use Rattle.walk.specs.Walk.{walk, start}
-use Rattle.choose.specs.Found.{Found, nothing, found, pick}
-use Rattle.choose.proofs.Fold.{BestOrNone, walk-best}
+use Rattle.offers.specs.Found.{Found, nothing, found, pick}
+use Rattle.search.proofs.Fold.{BestOrNone, walk-best}
 use Rattle.choose.proofs.OneOutcome.{one-best}
 use Rattle.table.specs.Table.{Rising, TableOf}
 use Rattle.table.specs.Descent.{upTo, descent, rowsBelow, allBudgets}

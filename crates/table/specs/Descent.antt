@@ -13,7 +13,7 @@ use Rattle.model.specs.Model.{need}
 use Rattle.choose.specs.declared.Choice.{Choice}
 use Rattle.choose.specs.Choice.{answered, refused}
 use Rattle.walk.specs.Walk.{start, walk}
-use Rattle.choose.specs.Found.{Found, nothing, found, pick}
+use Rattle.offers.specs.Found.{Found, nothing, found, pick}
 use Rattle.codec.specs.RowWords.{rowBytes, withRow}
 use Rattle.stairs.specs.Rows.{lowIn}
 

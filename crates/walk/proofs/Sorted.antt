@@ -28,6 +28,11 @@ flat-has {A} {B} f {y} {x} (a ∷ xs) m n = ⊎-elim here (λ k. Memᴰ·append-
     here : x ≡ a → List·Memᴰ y (f a ++ flatMap f xs)
     here e = Memᴰ·append-left (flatMap f xs) (subst (λ (b : A). List·Memᴰ y (f b)) e n)
 
+-- no list comes after itself
+pub not-after-self : (ts : List Seconds) → NotAfter ts ts
+not-after-self [] = tt
+not-after-self (t ∷ ts) = (le-refl _, λ e. not-after-self ts)
+
 -- strictly earlier in the order of lists
 pub record Earlier (ts us : List Seconds) : Type 0 where
   pub not-after : NotAfter ts us

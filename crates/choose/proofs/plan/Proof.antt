@@ -8,7 +8,7 @@ use Rattle.model.specs.declared.Seconds.{Seconds}
 use Rattle.model.specs.declared.Verdict.the-variants.{Sound}
 use Rattle.model.specs.Model.{seconds, pagesPerHour}
 use Rattle.walk.specs.Steps.{periodsIn}
-use Rattle.choose.proofs.Stored.{plan-more, plan-padded}
+use Rattle.choose.proofs.Planned.{plan-more, plan-padded}
 use borrow.Author.Needs.{needs}
 use native.Mathlib.Omega.{arith}
 use Rattle.choose.proofs.plan.Statement.{statement}

@@ -1,22 +1,22 @@
--- `choose::least_need` meets its contract: before each turn of its loop, the walk from the present multiple down ends as the whole walk does.
+-- `search::least_need` meets its contract: before each turn of its loop, the walk from the present multiple down ends as the whole walk does.
 -- Assumes nothing.
 use Prim.Native.Nat.{ℕ, _<_, _+_, _-_}
 use lib.ListN.{getD}
 use native.Mathlib.Nat.{div-le-self, div-mul-le-self}
 use Rattle.walk.proofs.Cuts.{ready-more, ready-longest, ready-own, ready-need}
-use Rattle.choose.proofs.Lessening.{Down, DownTurn, down-leaf, down-starts, down-room, down-next, down-cut, down-written, down-turn, down-skip, down-done}
+use Rattle.search.proofs.Lessening.{Down, DownTurn, down-leaf, down-starts, down-room, down-next, down-cut, down-written, down-turn, down-skip, down-done}
 use borrow.Author.Needs.{needs}
 use native.Mathlib.Omega.{arith}
 use borrow.Fn.Kinds.{In}
 use borrow.Fn.PlainCycle.{Measures, is, falls, and}
-use Rattle.choose.proofs.least_need.Reads as least-need
-use Rattle.choose.proofs.least_need.Kinds as least-need-kinds
-use Rattle.choose.proofs.+least_need.Lts-least_need as least-need-lts
-use Rattle.choose.proofs.may_lessen.Reads as may-lessen-reads
+use Rattle.search.proofs.least_need.Reads as least-need
+use Rattle.search.proofs.least_need.Kinds as least-need-kinds
+use Rattle.search.proofs.+least_need.Lts-least_need as least-need-lts
+use Rattle.search.proofs.may_lessen.Reads as may-lessen-reads
 use Rattle.walk.proofs.need_of.Reads as need-of-reads
-use Rattle.choose.proofs.smaller.Reads as smaller-reads
-use Rattle.choose.proofs.+least_need.{statement}
-use Rattle.choose.proofs.+least_need.Tie.{close}
+use Rattle.search.proofs.smaller.Reads as smaller-reads
+use Rattle.search.proofs.+least_need.{statement}
+use Rattle.search.proofs.+least_need.Tie.{close}
 
 abbrev measure : Measures 3 least-need-kinds.ps ℕ
 measure κs a = a .1 .1 .1 .1 .0 - a .1 .1 .1 .0

@@ -13,15 +13,14 @@ use Rattle.model.specs.declared.PagesPerHour.{PagesPerHour}
 use Rattle.model.specs.declared.Job.{Job}
 use Rattle.model.specs.Model.{seconds, pagesPerHour, jobLoss}
 use Rattle.walk.specs.Walk.{needFloor, node, next, walkBy, walkDown, walkDownFrom}
-use Rattle.choose.specs.Found.{none, least, lessNeed}
+use Rattle.search.specs.Least.{none, least, lessNeed}
 use Rattle.walk.specs.Arrays.{Held}
 use Rattle.walk.specs.Steps.{needAt, Unreached, ReadyForCut}
-use Rattle.choose.specs.Steps.{ReadyForNeed, noNeed, leastIn, Lessens, LessensNothing}
+use Rattle.search.specs.Steps.{ReadyForNeed, noNeed, leastIn, Lessens, LessensNothing}
 use Rattle.model.proofs.Rounding.{multiple-is, split-product}
 use Rattle.walk.proofs.Floors.{multiple-above}
 use Rattle.walk.proofs.Falling.{down-lists}
-use Rattle.walk.proofs.Walk.{walk-cut}
-use Rattle.choose.proofs.Updates.{keeps-least}
+use Rattle.walk.proofs.Walk.{Keeps, walk-cut}
 use Rattle.walk.proofs.Loops.{down-opens, down-takes, down-ends}
 use Rattle.walk.proofs.Held.{held-open, held-none, held-next, held-valid, need-to}
 use Rattle.walk.proofs.Cuts.{need-floor-is, unreached, ready-need, need-floor-to, next-ready, next-written}
@@ -45,6 +44,11 @@ less-need q l ts had r small e = go (ℕ-discrete (had .0) noNeed)
         let is : r .0 ≡ q = omega arith in
         rw (no-least had no-need) (some-least r (λ d. omega arith) ∙ ap least is)
     go (no some) = rw (some-least had some) (some-least r (λ d. omega arith) ∙ ap least e)
+
+-- which need floor lets what is had stand
+keeps-least : {m k : ℕ} → m ≤ k → Keeps lessNeed (least m) k 0
+unfolding lessNeed
+keeps-least {m} h q l ts k≤ l≤ = let e : min q m ≡ m = omega arith in ap least e
 
 module _ {spans rates : List ℕ} {i n : ℕ} {t : Seconds} {written : ℕ} (r : ReadyForCut spans rates i n t written) (had : PagesPerHour) where
   -- the cut by the need floor

@@ -1,16 +1,16 @@
--- What the updates do, case by case: when a plan is taken, and which plans leave what is had alone, so that a walk may be cut.
+-- What the update does, case by case: when a plan is taken, and which plans leave what is had alone, so that a walk may be cut.
 -- Assumes nothing.
-use mathlib.Core.Path.{_≡_, refl, ap, subst}
+use mathlib.Core.Path.{_≡_, refl, subst}
 use mathlib.Core.List.{List, []}
 use mathlib.Core.Bool.{Bool, true, false, cond, _&&_}
-use Prim.Native.Nat.{ℕ, min, _≤_, _<_}
+use Prim.Native.Nat.{ℕ, _≤_, _<_}
 use native.Mathlib.Omega.{arith}
 use native.Mathlib.Decide.{decLe, decLt}
 use native.Mathlib.Nat.{le-refl}
 use lib.Dec.{leb, eqb}
 use borrow.Author.Tests.{le-leb, lt-leb, lt-ltb, le-ltb, eq-eqb, ne-eqb}
 use Rattle.model.specs.declared.Seconds.{Seconds}
-use Rattle.choose.specs.Found.{Found, nothing, found, beats, pick, least, lessNeed}
+use Rattle.offers.specs.Found.{Found, nothing, found, beats, pick}
 use Rattle.walk.proofs.Walk.{Keeps}
 use Rattle.walk.proofs.Pageless.{Absorbs}
 
@@ -112,7 +112,3 @@ pick-absorbs b = record {
   after = λ q l ts had g us. refused-kept b q l us (pick b q l ts had) (pick-either b q l ts (Refused b q l) had (λ more. refused-self b q l ts) (λ k. k));
   stays = λ q l q′ l′ ts had g h us. refused-kept b q l us (pick b q′ l′ ts had) (let k = kept-refused b q l [] had (h []) in pick-either b q′ l′ ts (Refused b q l) had (λ more. more q l k) (λ r. k));
 }
-
-pub keeps-least : {m k : ℕ} → m ≤ k → Keeps lessNeed (least m) k 0
-unfolding lessNeed
-keeps-least {m} h q l ts k≤ l≤ = let e : min q m ≡ m = omega arith in ap least e

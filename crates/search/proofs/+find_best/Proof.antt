@@ -1,29 +1,29 @@
--- `choose::find_best` meets its contract: before each turn of its loop, the walk from the present multiple up, begun with what is found, ends as the whole walk does.
+-- `search::find_best` meets its contract: before each turn of its loop, the walk from the present multiple up, begun with what is found, ends as the whole walk does.
 -- Assumes nothing.
 use Prim.Native.Nat.{ℕ, _<_, _+_, _-_}
 use mathlib.Core.Path.{_∙_}
 use native.Mathlib.Nat.{div-le-self, div-mul-le-self}
 use lib.ListN.{getD, length-set}
-use Rattle.choose.specs.Found.{pick}
-use Rattle.choose.specs.Steps.{foundIn, Sizes}
+use Rattle.offers.specs.Found.{pick}
+use Rattle.offers.specs.Steps.{foundIn, Sizes}
 use Rattle.walk.proofs.Cuts.{ready-more, ready-shortest, ready-longest, ready-own, ready-need}
-use Rattle.choose.proofs.Updates.{AnyFound, pick-absorbs}
-use Rattle.choose.proofs.Winning.{more-loss-kept}
+use Rattle.offers.proofs.Updates.{AnyFound, pick-absorbs}
+use Rattle.offers.proofs.Winning.{more-loss-kept}
 use Rattle.walk.proofs.Climbing.{Up, Turn, up-leaf, up-starts, up-done, up-loss-fits, up-later, up-written, up-first, up-cut, up-lost, up-next, up-floor, up-left, up-pass, up-skip, up-turn}
 use borrow.Author.Needs.{needs}
 use native.Mathlib.Omega.{arith}
 use borrow.Fn.Kinds.{In}
 use borrow.Fn.PlainCycle.{Measures, is, falls, and}
-use Rattle.choose.proofs.find_best.Reads as find-best
-use Rattle.choose.proofs.find_best.Kinds as find-best-kinds
-use Rattle.choose.proofs.+find_best.Lts-find_best as find-best-lts
+use Rattle.search.proofs.find_best.Reads as find-best
+use Rattle.search.proofs.find_best.Kinds as find-best-kinds
+use Rattle.search.proofs.+find_best.Lts-find_best as find-best-lts
 use Rattle.walk.proofs.job_loss.Reads as job-loss-reads
 use Rattle.walk.proofs.loss_floor.Reads as loss-floor-reads
 use Rattle.walk.proofs.repeats.Reads as repeats-reads
-use Rattle.choose.proofs.may_win.Reads as may-win-reads
-use Rattle.choose.proofs.offer.Reads as offer-reads
-use Rattle.choose.proofs.+find_best.{statement}
-use Rattle.choose.proofs.+find_best.Tie.{close}
+use Rattle.offers.proofs.may_win.Reads as may-win-reads
+use Rattle.offers.proofs.offer.Reads as offer-reads
+use Rattle.search.proofs.+find_best.{statement}
+use Rattle.search.proofs.+find_best.Tie.{close}
 
 abbrev measure : Measures 6 find-best-kinds.ps ℕ
 measure κs a = a .1 .1 .1 .1 .1 .0 - a .1 .1 .1 .1 .0

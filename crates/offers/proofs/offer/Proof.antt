@@ -1,12 +1,12 @@
--- `choose::offer` meets its contract: each way out is one case of the update.
+-- `offers::offer` meets its contract: each way out is one case of the update.
 -- Assumes nothing.
 use borrow.Author.Needs.{needs}
 use mathlib.Core.Path.{ap}
 use Rattle.model.specs.declared.PagesPerHour.{PagesPerHour}
-use Rattle.choose.proofs.Stored.{offer-over, offer-more-loss, offer-no-less, offer-less-loss, offer-less-need}
+use Rattle.offers.proofs.Stored.{offer-over, offer-more-loss, offer-no-less, offer-less-loss, offer-less-need}
 use native.Mathlib.Omega.{arith}
-use Rattle.choose.proofs.offer.Statement.{statement}
-use Rattle.choose.proofs.offer.Tie as tie
+use Rattle.offers.proofs.offer.Statement.{statement}
+use Rattle.offers.proofs.offer.Tie as tie
 
 need-of-requires : tie.Need-need-of-requires
 need-of-requires c κs = search needs

@@ -8,13 +8,13 @@ use native.Mathlib.Nat.{le-refl}
 use lib.ListN.{getD}
 use Rattle.model.specs.declared.Seconds.{Seconds}
 use Rattle.model.specs.declared.PagesPerHour.{PagesPerHour}
-use Rattle.choose.specs.Found.{Found, pick}
+use Rattle.offers.specs.Found.{Found, pick}
 use Rattle.walk.specs.Steps.{needAt, Unreached, ReadyForCut, periodsIn}
-use Rattle.choose.specs.Steps.{noPlan, foundIn, WinsNothing}
+use Rattle.offers.specs.Steps.{noPlan, foundIn, WinsNothing}
 use Rattle.walk.proofs.Walk.{Keeps}
 use Rattle.walk.proofs.Cuts.{floors-cut, reach-cut}
-use Rattle.choose.proofs.Updates.{keeps-over, keeps-more-loss, keeps-no-less}
-use Rattle.choose.proofs.Stored.{plan-found}
+use Rattle.offers.proofs.Updates.{keeps-over, keeps-more-loss, keeps-no-less}
+use Rattle.offers.proofs.Stored.{plan-found}
 
 -- a loss floor above the best loss
 pub more-loss-kept : (n : ℕ) (b : PagesPerHour) (best : List ℕ) {l : ℕ} → getD best 9 0 < l → l < noPlan → Keeps (pick (b .0)) (foundIn n best) 0 l

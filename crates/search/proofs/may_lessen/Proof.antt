@@ -1,13 +1,13 @@
--- `choose::may_lessen` meets its contract: where it says no, the need floor or an interval out of reach shows that nothing less is ahead.
+-- `search::may_lessen` meets its contract: where it says no, the need floor or an interval out of reach shows that nothing less is ahead.
 -- Assumes nothing.
 use borrow.Author.Needs.{needs}
 use mathlib.Core.Path.{ap}
 use Rattle.model.specs.declared.PagesPerHour.{PagesPerHour}
 use Rattle.walk.proofs.Cuts.{ready-need, ready-ends, need-floor-to}
-use Rattle.choose.proofs.Lessening.{floor-not-less, unreached-not-less}
+use Rattle.search.proofs.Lessening.{floor-not-less, unreached-not-less}
 use native.Mathlib.Omega.{arith}
-use Rattle.choose.proofs.may_lessen.Statement.{statement}
-use Rattle.choose.proofs.may_lessen.Tie as tie
+use Rattle.search.proofs.may_lessen.Statement.{statement}
+use Rattle.search.proofs.may_lessen.Tie as tie
 
 need-of-requires : tie.Need-need-of-requires
 need-of-requires c κs = ready-need (c .pre .ready)

@@ -1,13 +1,13 @@
--- `choose::may_win` meets its contract: where it says no, the need floor, a tie with the best or an interval out of reach shows that nothing better is ahead.
+-- `offers::may_win` meets its contract: where it says no, the need floor, a tie with the best or an interval out of reach shows that nothing better is ahead.
 -- Assumes nothing.
 use borrow.Author.Needs.{needs}
 use mathlib.Core.Path.{ap}
 use Rattle.model.specs.declared.PagesPerHour.{PagesPerHour}
 use Rattle.walk.proofs.Cuts.{ready-need, ready-ends, need-floor-to}
-use Rattle.choose.proofs.Winning.{over-wins-nothing, tie-wins-nothing, unreached-wins-nothing}
+use Rattle.offers.proofs.Winning.{over-wins-nothing, tie-wins-nothing, unreached-wins-nothing}
 use native.Mathlib.Omega.{arith}
-use Rattle.choose.proofs.may_win.Statement.{statement}
-use Rattle.choose.proofs.may_win.Tie as tie
+use Rattle.offers.proofs.may_win.Statement.{statement}
+use Rattle.offers.proofs.may_win.Tie as tie
 
 need-of-requires : tie.Need-need-of-requires
 need-of-requires c κs = ready-need (c .pre .0 .ready)

@@ -1,12 +1,12 @@
--- `choose::keep` meets its contract: before each turn the first k periods stand.
+-- `offers::keep` meets its contract: before each turn the first k periods stand.
 -- Assumes nothing.
 use mathlib.Core.Path.{_≡_, refl, subst}
 use Prim.Native.Nat.{_-_}
-use Rattle.choose.proofs.Stored.{Copied, one-copied, all-copied}
+use Rattle.offers.proofs.Stored.{Copied, one-copied, all-copied}
 use borrow.Author.Needs.{needs}
 use native.Mathlib.Omega.{arith}
-use Rattle.choose.proofs.keep.Statement.{statement}
-use Rattle.choose.proofs.keep.Tie as tie
+use Rattle.offers.proofs.keep.Statement.{statement}
+use Rattle.offers.proofs.keep.Tie as tie
 
 abbrev Inv-loop : tie.InvT-loop
 Inv-loop n need loss periods best₀ k₀ best k = Copied n periods best k

@@ -13,15 +13,11 @@ use Rattle.model.specs.declared.Job.{Job}
 use Rattle.model.specs.Model.{seconds, ValidJobs, Permitted, need, FitsBudget, loss, NotAfter, NoWorse, Best}
 use Rattle.walk.specs.Chains.{chains}
 use Rattle.walk.specs.Walk.{visit, start, walk}
-use Rattle.choose.specs.Found.{Found, nothing, found, pick}
-use Rattle.walk.proofs.Sorted.{Sorted}
+use Rattle.offers.specs.Found.{Found, nothing, found, pick}
+use Rattle.walk.proofs.Sorted.{not-after-self, Sorted}
 use Rattle.walk.proofs.Chains.{multiples-lists, chains-only, chains-all, chains-sorted}
 use Rattle.walk.proofs.Walk.{walk-all}
-use Rattle.choose.proofs.Updates.{pick-over, pick-first, pick-less-loss, pick-less-need, pick-more-loss, pick-no-less}
-
-pub not-after-self : (ts : List Seconds) → NotAfter ts ts
-not-after-self [] = tt
-not-after-self (t ∷ ts) = (le-refl _, λ e. not-after-self ts)
+use Rattle.offers.proofs.Updates.{pick-over, pick-first, pick-less-loss, pick-less-need, pick-more-loss, pick-no-less}
 
 module _ (js : List Job) where
   no-worse-self : (ts : List Seconds) → NoWorse js ts ts

@@ -1,0 +1,2 @@
+pub mod Least
+pub mod Steps
