@@ -14,7 +14,7 @@ use Rattle.model.specs.declared.Profile.{Profile}
 use Rattle.model.specs.declared.Counted.{Counted}
 use Rattle.model.specs.declared.Verdict.{Verdict}
 use Rattle.model.specs.declared.Verdict.the-variants.{Sound, NoPeriods, Room}
-use Rattle.model.specs.Model.{seconds, pagesPerHour, jobsOf, periodsOf, need, loss, numberOf, refuseIf, orElse, ifSound, verdictOf}
+use Rattle.model.specs.Model.{seconds, pagesPerHour, jobsOf, periodsOf, need, loss, numberOf, refuseIf, orElse, ifSound, verdictOf, rowsVerdict}
 use Rattle.model.proofs.Validity.{sound-valid}
 use Rattle.model.proofs.Verdicts.{sound-of-zero, beside-sound}
 use Rattle.score.specs.declared.Scored.{Scored}
@@ -33,10 +33,10 @@ use Rattle.search.proofs.Fold.{walk-best}
 use Rattle.choose.proofs.LeastNeed.{walk-least}
 use Rattle.choose.proofs.Settled.{settled}
 use Rattle.choose.proofs.OneOutcome.{choose-one-outcome}
-use Rattle.zones.specs.Zones.{rowsOf, listVerdict}
+use Rattle.zones.specs.Zones.{rowsOf}
 use Rattle.zones.proofs.Outcome.{zonesOf, are-zones}
 use Rattle.zones.proofs.OneOutcome.{list-zones-one-outcome}
-use Rattle.table.specs.Table.{tableBytes, buildVerdict}
+use Rattle.table.specs.Table.{tableBytes}
 use Rattle.table.proofs.Outcome.{rowsOf as tableOf, are-rows, none-of}
 use Rattle.table.proofs.OneOutcome.{build-table-one-outcome}
 use Rattle.tablerows.specs.Table.{rowsIn}
@@ -143,7 +143,7 @@ anew (lookingUp p table b answer bytes) =
     lookingUp p table b (counted v (k + 1)) (ifSound v (take 16 (drop (16 * k) table)) [])
 
 pub anew-right : (c : Case) → Right (anew c)
-unfolding anew counted listVerdict buildVerdict
+unfolding anew counted rowsVerdict
 anew-right (permitting p verdict lists) = (
   refl,
   λ sound ts.
@@ -153,9 +153,9 @@ anew-right (permitting p verdict lists) = (
 anew-right (choosing p b answer) = λ r chosen. choose-one-outcome p (pagesPerHour b) chosen (choice-meets p b)
 anew-right (scoring p ts answer) = λ r scores. score-one-outcome p ts scores (score-meets p ts)
 anew-right (listing p answer bytes) = λ old room r new listed.
-    rows-right p (length (zonesOf p)) (rowsOf (zonesOf p)) old room (list-zones-one-outcome p old listed (record { zones = zonesOf p; are = are-zones p; verdict = refl; count = refl; bytes = refl }))
+    rows-right p (length (zonesOf p)) (rowsOf (zonesOf p)) old room (list-zones-one-outcome p old listed (record { zones = zonesOf p; are = are-zones p; puts = record { verdict = refl; count = refl; bytes = refl } }))
 anew-right (building p answer bytes) = λ old room r new built.
-    rows-right p (length (tableOf p)) (tableBytes (jobsOf p) (tableOf p)) old room (build-table-one-outcome p old built (record { rows = tableOf p; are = are-rows p; none = none-of p; verdict = refl; count = refl; bytes = refl }))
+    rows-right p (length (tableOf p)) (tableBytes (jobsOf p) (tableOf p)) old room (build-table-one-outcome p old built (record { rows = tableOf p; are = are-rows p; none = none-of p; puts = record { verdict = refl; count = refl; bytes = refl } }))
 anew-right (lookingUp p table b answer bytes) = (
   λ r located. locate-one-outcome p table (pagesPerHour b) located (record { verdict = refl; count = refl }),
   λ v told. told,

@@ -10,7 +10,8 @@ use Rattle.model.specs.declared.Seconds.{Seconds}
 use Rattle.model.specs.declared.PagesPerHour.{PagesPerHour}
 use Rattle.model.specs.declared.Job.{Job}
 use Rattle.model.specs.declared.Verdict.the-variants.{NoPeriods, Budget}
-use Rattle.model.specs.Model.{seconds, pagesPerHour, ValidJobs, PermittedAfter}
+use Rattle.model.specs.Model.{seconds, pagesPerHour, PermittedAfter}
+use Rattle.model.specs.Valid.{ValidJobs}
 use Rattle.choose.specs.Choice.{refused, Outcome}
 use Rattle.walk.specs.Walk.{start, walk, walkDown}
 use Rattle.offers.specs.Found.{nothing, found, pick}

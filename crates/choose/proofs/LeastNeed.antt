@@ -9,7 +9,8 @@ use native.Mathlib.Decide.{decLe}
 use native.Mathlib.Nat.{le-refl, le-trans}
 use Rattle.model.specs.declared.Seconds.{Seconds}
 use Rattle.model.specs.declared.Job.{Job}
-use Rattle.model.specs.Model.{seconds, pagesPerHour, ValidJobs, Permitted, need, loss}
+use Rattle.model.specs.Model.{seconds, pagesPerHour, Permitted, need, loss}
+use Rattle.model.specs.Valid.{ValidJobs}
 use Rattle.choose.specs.Choice.{LeastBudget}
 use Rattle.walk.specs.Chains.{chainsBy}
 use Rattle.walk.specs.Walk.{visit, start, walkBy}

@@ -10,7 +10,8 @@ use offers::LOSS;
 use offers::NEED;
 use offers::NO_PLAN;
 ghost use mathlib.Core.Path.{_≡_};
-ghost use Rattle.model.specs.Model.{jobsOf, Valid};
+ghost use Rattle.model.specs.Model.{jobsOf};
+ghost use Rattle.model.specs.Valid.{Valid};
 ghost use Rattle.choose.specs.Choice.{refused, Outcome, Chosen};
 ghost use Rattle.choose.specs.Steps.{Small, planIn};
 

@@ -11,7 +11,8 @@ use Rattle.model.specs.declared.Seconds.{Seconds}
 use Rattle.model.specs.declared.Job.{Job}
 use Rattle.model.specs.declared.Profile.{Profile}
 use Rattle.model.specs.declared.Verdict.the-variants.{Sound}
-use Rattle.model.specs.Model.{seconds, jobsOf, periodsOf, Valid, need, loss, verdictOf}
+use Rattle.model.specs.Model.{seconds, jobsOf, periodsOf, need, loss, verdictOf}
+use Rattle.model.specs.Valid.{Valid}
 use Rattle.model.proofs.Validity.{valid-sound}
 use Rattle.model.proofs.Verdicts.{sound-passes, beside-sound}
 use Rattle.score.specs.Scoring.{firstUnpermitted, scoreVerdict}

@@ -8,7 +8,7 @@ use Rattle.model.specs.declared.Seconds.{Seconds}
 use Rattle.model.specs.declared.Job.{Job}
 use Rattle.model.specs.declared.Profile.{Profile}
 use Rattle.model.specs.declared.Verdict.the-variants.{Sound}
-use Rattle.model.specs.Model.{seconds, noJob, entries, jobsOf, lastOf, pagesIn, need, rate, jobLoss, loss, refuseIf, orElse, ifSound, firstRefused, judgeIntervalAndStiffness, judgeJob, verdictOf}
+use Rattle.model.specs.Model.{seconds, noJob, entries, jobsOf, lastOf, pagesIn, need, rate, jobLoss, loss, refuseIf, orElse, ifSound, firstRefused, judgeIntervalAndStiffness, judgeJob, verdictOf, rowsVerdict}
 use Rattle.model.proofs.Validity.{sound-valid}
 use Rattle.codec.specs.Packing.{bits, pack, unpack, recut}
 use Rattle.reading.specs.declared.Reading.{Reading}
@@ -16,7 +16,7 @@ use Rattle.reading.specs.Reading.{headerOf, recordsIn, judgeRecord, judgeHeader
 use Rattle.walk.specs.Walk.{walkBy, visit}
 use Rattle.offers.specs.Found.{pick, beats}
 use Rattle.walk.specs.Chains.{multiples, risingFrom, climb}
-use Rattle.table.specs.Table.{TableOf, buildVerdict}
+use Rattle.table.specs.Table.{TableOf}
 use Rattle.table.specs.Descent.{upTo, descent, rowsBelow, allBudgets}
 use Rattle.table.proofs.Descent.{descent-table, no-rows}
 use Rattle.lookup.proofs.Laid.{few-jobs}
@@ -79,7 +79,7 @@ table-is : TableOf (jobsOf profileA) rowsA
 table-is = subst (TableOf (jobsOf profileA)) rows-are (descent-table (jobsOf profileA) (sound-valid profileA sound .jobs))
 
 text-is : textA ≡ textOf readingA rowsA
-unfolding textA readingA profileA job rowsA three textOf listingVerdict buildVerdict verdictOf judgeJob judgeIntervalAndStiffness firstRefused orElse refuseIf ifSound entries headerLine rowLines rowLine spacedPeriods spaced decimal digitsOf need loss pagesIn lastOf rate jobLoss
+unfolding textA readingA profileA job rowsA three textOf listingVerdict rowsVerdict verdictOf judgeJob judgeIntervalAndStiffness firstRefused orElse refuseIf ifSound entries headerLine rowLines rowLine spacedPeriods spaced decimal digitsOf need loss pagesIn lastOf rate jobLoss
 text-is = refl
 
 -- Profile A's text is document 01's.

@@ -11,21 +11,22 @@ use borrow.Author.Tests.{lt-ltb, ne-eqb}
 use Rattle.model.specs.declared.Seconds.{Seconds}
 use Rattle.model.specs.declared.Profile.{Profile}
 use Rattle.model.specs.declared.Verdict.the-variants.{Sound, NoPeriods, Room}
-use Rattle.model.specs.Model.{jobsOf, refuseIf, orElse, ifSound, verdictOf}
+use Rattle.model.specs.Model.{jobsOf, refuseIf, orElse, ifSound, verdictOf, rowsVerdict}
 use Rattle.model.proofs.Verdicts.{Refuses, beside-refusal}
+use Rattle.model.proofs.RowsPut.{none-put}
 use Rattle.reading.specs.declared.Reading.{Reading}
 use Rattle.reading.specs.Reading.{verdictOfBytes, valuesOf, noProfile}
 use Rattle.reading.proofs.OneOutcome.{read-profile-one-outcome}
-use Rattle.table.specs.Table.{TableOf, buildVerdict, Built}
+use Rattle.table.specs.Table.{TableOf, Built}
 use Rattle.table.proofs.OneOutcome.{table-one}
-use Rattle.table.proofs.Outcome.{rowsOf, handed-on}
+use Rattle.table.proofs.Outcome.{rowsOf, built}
 use Rattle.lines.specs.Lines.{refusalLine}
 use Rattle.listing.specs.Text.{listingVerdict, textOf, Text}
 use Rattle.listing.proofs.Verdicts.{sound-or-refused, refused-first, refused-next}
 
 -- the refusal of a profile stands, however many rows there are
 refused-decides : (r : Reading) (count : ℕ) → Refuses (verdictOf (r .profile)) → orElse (r .verdict) (verdictOf (r .profile)) ≡ listingVerdict r count
-unfolding listingVerdict buildVerdict
+unfolding listingVerdict rowsVerdict
 refused-decides r count h = ap (orElse (r .verdict)) (sym (refused-first (verdictOf (r .profile)) _ h))
 
 refused-text : (r : Reading) (rows : List (List Seconds)) → Refuses (verdictOf (r .profile)) → textOf r rows ≡ refusalLine (orElse (r .verdict) (verdictOf (r .profile)))
@@ -56,9 +57,9 @@ no-room zero = tt
 no-room (suc count) = rw (ne-eqb (suc count) 0 (λ e. omega arith), lt-ltb 0 (suc count) (omega arith)) tt
 
 -- every profile has its rows, as what building into no room tells of them
-some-rows : (p : Profile) → Built p [] (record { verdict = buildVerdict p (length (rowsOf p)) 0; count = 0 }) []
-unfolding buildVerdict
-some-rows p = handed-on p [] _ (refused-next (verdictOf p) _ (no-room (length (rowsOf p)))) refl
+some-rows : (p : Profile) → Built p [] (record { verdict = rowsVerdict p (length (rowsOf p)) 0; count = 0 }) []
+unfolding rowsVerdict
+some-rows p = built p [] (none-put p _ _ [] _ (refused-next (verdictOf p) _ (no-room (length (rowsOf p)))) refl)
 
 pub text-some : (input : List ℕ) → (text : List ℕ) × Text input text
 text-some input =

@@ -10,10 +10,10 @@ use Rattle.model.specs.declared.Seconds.{Seconds}
 use Rattle.model.specs.declared.Job.{Job}
 use Rattle.model.specs.declared.Verdict.{Verdict}
 use Rattle.model.specs.declared.Verdict.the-variants.{Sound}
-use Rattle.model.specs.Model.{jobsOf, Permitted, need, loss, orElse, ifSound, verdictOf}
+use Rattle.model.specs.Model.{jobsOf, Permitted, need, loss, orElse, ifSound, verdictOf, rowsVerdict}
 use Rattle.reading.specs.declared.Reading.{Reading}
 use Rattle.reading.specs.Reading.{Reads}
-use Rattle.table.specs.Table.{TableOf, buildVerdict}
+use Rattle.table.specs.Table.{TableOf}
 use Rattle.listing.specs.declared.Listing.{Listing}
 use Rattle.lines.specs.Lines.{refusalLine, headerLine, rowLine}
 use Rattle.listing.specs.Listing.{lineAt}
@@ -25,7 +25,7 @@ rowLines js (ts ∷ rows) = rowLine (need js ts) (loss js ts) ts ++ rowLines js 
 
 -- The verdict on a listing of `count` rows: the reading's own, then that of building into room for 4,096 rows of 16 bytes.
 unfoldable pub listingVerdict : Reading → ℕ → Verdict
-listingVerdict r count = orElse (r .verdict) (buildVerdict (r .profile) count (16 * 4096))
+listingVerdict r count = orElse (r .verdict) (rowsVerdict (r .profile) count (16 * 4096))
 
 -- The whole text: the header and a line for each row of the table, or the refusal alone.
 unfoldable pub textOf : Reading → List (List Seconds) → List ℕ

@@ -14,7 +14,8 @@ use Rattle.model.specs.declared.PagesPerHour.{PagesPerHour}
 use Rattle.model.specs.declared.Profile.{Profile}
 use Rattle.model.specs.declared.Verdict.{Verdict}
 use Rattle.model.specs.declared.Verdict.the-variants.{Sound, Budget, Row}
-use Rattle.model.specs.Model.{seconds, Valid, numberOf, detailOf, refuseIf, verdictOf}
+use Rattle.model.specs.Model.{seconds, numberOf, detailOf, refuseIf, verdictOf}
+use Rattle.model.specs.Valid.{Valid}
 use Rattle.model.proofs.Validity.{valid-sound}
 use Rattle.model.proofs.Verdicts.{sound-passes}
 use Rattle.tablerows.specs.Table.{rowsIn, startAt, periodsAt, needAt, lossAt, follows}

@@ -10,7 +10,8 @@ use lib.Seq.{take-at, drop-append-add}
 use Rattle.model.specs.declared.Seconds.{Seconds}
 use Rattle.model.specs.declared.Job.{Job}
 use Rattle.model.specs.declared.Profile.{Profile}
-use Rattle.model.specs.Model.{seconds, pagesPerHour, noJob, entries, jobsOf, periodsOf, ValidJobs, Valid, PermittedAfter, Permitted, need, loss}
+use Rattle.model.specs.Model.{seconds, pagesPerHour, noJob, entries, jobsOf, periodsOf, PermittedAfter, Permitted, need, loss}
+use Rattle.model.specs.Valid.{ValidJobs, Valid}
 use Rattle.model.proofs.Entries.{length-entries, entries-front}
 use Rattle.codec.specs.Packing.{bits, recut}
 use Rattle.codec.specs.Layout.{byteWidths}

@@ -15,13 +15,14 @@ use Rattle.model.specs.declared.Job.{Job}
 use Rattle.model.specs.declared.Profile.{Profile}
 use Rattle.model.specs.declared.Counted.{Counted}
 use Rattle.model.specs.declared.Verdict.the-variants.{Sound, Budget}
-use Rattle.model.specs.Model.{jobsOf, ValidJobs, Valid, need, loss, Best, numberOf, refuseIf, verdictOf}
+use Rattle.model.specs.Model.{jobsOf, need, loss, Best, numberOf, refuseIf, verdictOf, rowsVerdict}
+use Rattle.model.specs.Valid.{ValidJobs, Valid}
 use Rattle.model.proofs.Validity.{sound-valid, valid-sound}
 use Rattle.model.proofs.Verdicts.{both-sound, test-passed, beside-sound}
 use Rattle.choose.specs.declared.Choice.{Choice}
 use Rattle.choose.specs.Choice.{padded, answered, LeastBudget, Outcome, given, none-permitted, none-fit, Chosen}
 use Rattle.choose.proofs.OneOutcome.{one-least-budget}
-use Rattle.table.specs.Table.{TableOf, tableBytes, buildVerdict, Built}
+use Rattle.table.specs.Table.{TableOf, tableBytes, Built}
 use Rattle.table.proofs.Best.{best-at-need, needs-follow}
 use Rattle.table.proofs.Reading.{first-start}
 use Rattle.tablerows.specs.Table.{rowsIn, startAt, periodsAt, lossAt}
@@ -127,14 +128,14 @@ pub record HoldsTable (p : Profile) (bytes : List ℕ) : Type 0 where
 
 -- what building wrote is that
 pub built-holds : (p : Profile) (old : List ℕ) {r : Counted} {new : List ℕ} → Built p old r new → r .verdict ≡ Sound → HoldsTable p (take (16 * r .count) new)
-unfolding buildVerdict
+unfolding rowsVerdict
 built-holds p old {r} {new} built e =
     let rows = built .rows in
     let T = tableBytes (jobsOf p) rows in
-    let sound : buildVerdict p (length rows) (length old) ≡ Sound = sym (built .verdict) ∙ e in
+    let sound : rowsVerdict p (length rows) (length old) ≡ Sound = sym (built .puts .verdict) ∙ e in
     let both = both-sound (verdictOf p) sound in
-    let count : r .count ≡ length rows = built .count ∙ sym (beside-sound (length rows) 0 (sym sound)) in
-    let bytes : new ≡ T ++ drop (16 * length rows) old = built .bytes ∙ sym (beside-sound (T ++ drop (16 * length rows) old) old (sym sound)) in
+    let count : r .count ≡ length rows = built .puts .count ∙ sym (beside-sound (length rows) 0 (sym sound)) in
+    let bytes : new ≡ T ++ drop (16 * length rows) old = built .puts .bytes ∙ sym (beside-sound (T ++ drop (16 * length rows) old) old (sym sound)) in
     record {
       valid = sound-valid p (both .0);
       rows = rows;

@@ -13,7 +13,8 @@ use Rattle.model.specs.declared.Job.{Job}
 use Rattle.model.specs.declared.Profile.{Profile}
 use Rattle.model.specs.declared.Counted.{Counted}
 use Rattle.model.specs.declared.Verdict.the-variants.{Sound}
-use Rattle.model.specs.Model.{pagesPerHour, jobsOf, periodsOf, Valid, Best, numberOf}
+use Rattle.model.specs.Model.{pagesPerHour, jobsOf, periodsOf, Best, numberOf}
+use Rattle.model.specs.Valid.{Valid}
 use Rattle.model.proofs.Validity.{valid-sound}
 use Rattle.codec.proofs.Bytes.{Bytes}
 use Rattle.choose.specs.declared.Choice.{Choice}

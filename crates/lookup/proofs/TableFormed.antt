@@ -8,7 +8,8 @@ use lib.ListN.{length, getD, List·getD-eq-default}
 use Rattle.model.specs.declared.Seconds.{Seconds}
 use Rattle.model.specs.declared.PagesPerHour.{PagesPerHour}
 use Rattle.model.specs.declared.Profile.{Profile}
-use Rattle.model.specs.Model.{seconds, noJob, jobsOf, Valid, Permitted, need}
+use Rattle.model.specs.Model.{seconds, noJob, jobsOf, Permitted, need}
+use Rattle.model.specs.Valid.{Valid}
 use Rattle.model.proofs.Entries.{length-entries}
 use Rattle.choose.specs.Choice.{padded}
 use Rattle.table.specs.Table.{TableOf, tableBytes}

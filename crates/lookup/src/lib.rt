@@ -10,7 +10,7 @@ use model::Seconds;
 use model::Verdict;
 ghost use mathlib.Core.Path.{_≡_};
 ghost use denote.Ref.{ptr};
-ghost use Rattle.model.specs.Model.{Valid};
+ghost use Rattle.model.specs.Valid.{Valid};
 ghost use Rattle.tablerows.specs.Table.{rowsIn};
 ghost use Rattle.lookup.specs.Lookup.{firstBad, lookupVerdict, lastWithin, LooksUp, Locates};
 

@@ -6,7 +6,8 @@ use native.Mathlib.Nat.{le-trans, mul-le-mul, mul-le-mul-left, pow-le-pow-left, 
 use mathlib.Core.Path.{_≡_, _∙_, ap}
 use Rattle.model.specs.declared.Seconds.{Seconds}
 use Rattle.model.specs.declared.Job.{Job}
-use Rattle.model.specs.Model.{cost, ValidJob, roundUp, rate, jobLoss}
+use Rattle.model.specs.Model.{cost, roundUp, rate, jobLoss}
+use Rattle.model.specs.Valid.{ValidJob}
 use Rattle.model.proofs.Rounding.{round-up-le}
 
 -- the most that one job writes in an hour, and the most that it loses

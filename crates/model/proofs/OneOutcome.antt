@@ -5,7 +5,7 @@ use Prim.Native.Nat.{ℕ}
 use Rattle.model.specs.declared.Job.{Job}
 use Rattle.model.specs.declared.Profile.{Profile}
 use Rattle.model.specs.declared.Verdict.{Verdict}
-use Rattle.model.specs.Model.{numberOf, detailOf, judgeIntervalAndStiffness, Judged}
+use Rattle.model.specs.Model.{numberOf, detailOf, judgeIntervalAndStiffness, verdictOf}
 
 pub number-one-outcome : (v : Verdict) {r s : ℕ} → r ≡ numberOf v → s ≡ numberOf v → r ≡ s
 number-one-outcome v one other = one ∙ sym other
@@ -16,5 +16,5 @@ detail-one-outcome v one other = one ∙ sym other
 pub judge-interval-and-stiffness-one-outcome : (j : Job) (k : ℕ) {r s : Verdict} → r ≡ judgeIntervalAndStiffness j k → s ≡ judgeIntervalAndStiffness j k → r ≡ s
 judge-interval-and-stiffness-one-outcome j k one other = one ∙ sym other
 
-pub judge-one-outcome : (p : Profile) {r s : Verdict} → Judged p r → Judged p s → r ≡ s
+pub judge-one-outcome : (p : Profile) {r s : Verdict} → r ≡ verdictOf p → s ≡ verdictOf p → r ≡ s
 judge-one-outcome p one other = one ∙ sym other

@@ -10,7 +10,8 @@ use borrow.Author.Tests.{eqb-false, ltb-false, le-ltb, ne-eqb}
 use Rattle.model.specs.declared.Job.{Job}
 use Rattle.model.specs.declared.Profile.{Profile}
 use Rattle.model.specs.declared.Verdict.the-variants.{Sound}
-use Rattle.model.specs.Model.{ValidJob, ValidJobs, Valid, noJob, entries, jobsOf, refuseIf, firstRefused, judgeIntervalAndStiffness, judgeJob, verdictOf}
+use Rattle.model.specs.Model.{noJob, entries, jobsOf, refuseIf, firstRefused, judgeIntervalAndStiffness, judgeJob, verdictOf}
+use Rattle.model.specs.Valid.{ValidJob, ValidJobs, Valid}
 use Rattle.model.proofs.Verdicts.{test-passed, both-sound, sound-passes}
 
 -- what 5 and 6 leave

@@ -1,1 +1,2 @@
 pub mod Model
+pub mod Valid

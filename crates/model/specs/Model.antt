@@ -2,15 +2,16 @@
 -- definitions; a comment that renders a rule ends in the rule's place there. Laws about them are in proofs/, which no contract
 -- cites publicly. Need, loss and permitted periods are meant for the jobs of a valid profile. Assumes nothing.
 use mathlib.Core.Path.{_≡_}
-use mathlib.Core.List.{List, [], _∷_}
+use mathlib.Core.List.{List, [], _∷_, _++_}
 use mathlib.Core.Bool.{Bool, true, false, cond}
 use Prim.Native.Nat.{ℕ, zero, suc, _+_, _*_, _-_, _/_, _%_, _^_, _≤_}
-use lib.ListN.{getD}
+use lib.ListN.{length, getD, drop}
 use lib.Dec.{eqb, ltb}
 use Rattle.model.specs.declared.Seconds.{Seconds}
 use Rattle.model.specs.declared.PagesPerHour.{PagesPerHour}
 use Rattle.model.specs.declared.Job.{Job}
 use Rattle.model.specs.declared.Profile.{Profile}
+use Rattle.model.specs.declared.Counted.{Counted}
 use Rattle.model.specs.declared.Verdict.{Verdict}
 use Rattle.model.specs.declared.Verdict.the-variants.{Sound, NoBytes, Edition, JobCount, Length, Interval, Stiffness, Spare, Pages, NoPeriods, Budget, Room, Row, Periods}
 
@@ -43,27 +44,6 @@ periodsOf p ts = entries (seconds 0) ts 0 (p .n)
 -- The pages of one run: c = d + g (Quantities).
 abbrev pub cost : Job → ℕ
 cost j = j .«data» + j .metadata
-
--- A job within its bounds (Quantities).
-pub record ValidJob (j : Job) : Type 0 where
-  pub lo-from : 1 ≤ j .lo .0
-  pub lo-to : j .lo .0 ≤ j .hi .0
-  pub hi-to : j .hi .0 ≤ 3600
-  pub data-to : j .«data» ≤ 32767
-  pub metadata-to : j .metadata ≤ 32767
-  pub stiffness-from : 1 ≤ j .stiffness
-  pub stiffness-to : j .stiffness ≤ 32
-
--- Each of these jobs is valid.
-abbrev pub ValidJobs : List Job → Type 0
-ValidJobs [] = Unit {0}
-ValidJobs (j ∷ js) = ValidJob j × ValidJobs js
-
--- A profile of 1 to 8 jobs, each within its bounds (Quantities).
-pub record Valid (p : Profile) : Type 0 where
-  pub n-from : 1 ≤ p .n
-  pub n-to : p .n ≤ 8
-  pub jobs : ValidJobs (jobsOf p)
 
 -- A period that a job may have after the period `before`: in its interval, and a whole multiple (Quantities).
 pub record Allowed (j : Job) (before t : Seconds) : Type 0 where
@@ -139,39 +119,28 @@ pub record Best (js : List Job) (b : PagesPerHour) (ts : List Seconds) : Type 0 
 
 -- Refusal numbers
 
--- The number of each refusal; 0 is none (Refusal numbers, the table).
-abbrev pub numberOf : Verdict → ℕ
-numberOf Sound = 0
-numberOf NoBytes = 1
-numberOf Edition = 2
-numberOf JobCount = 3
-numberOf Length = 4
-numberOf (Interval k) = 5
-numberOf (Stiffness k) = 6
-numberOf (Spare k) = 7
-numberOf (Pages k) = 8
-numberOf NoPeriods = 9
-numberOf (Budget b) = 10
-numberOf (Room k) = 11
-numberOf (Row k) = 12
-numberOf (Periods k) = 13
+-- The number and the detail of each refusal; 0 and 0 are none (Refusal numbers, the table).
+abbrev pub toldOf : Verdict → ℕ × ℕ
+toldOf Sound = (0, 0)
+toldOf NoBytes = (1, 0)
+toldOf Edition = (2, 0)
+toldOf JobCount = (3, 0)
+toldOf Length = (4, 0)
+toldOf (Interval k) = (5, k)
+toldOf (Stiffness k) = (6, k)
+toldOf (Spare k) = (7, k)
+toldOf (Pages k) = (8, k)
+toldOf NoPeriods = (9, 0)
+toldOf (Budget b) = (10, b .0)
+toldOf (Room k) = (11, k)
+toldOf (Row k) = (12, k)
+toldOf (Periods k) = (13, k)
 
--- The detail of each refusal (Refusal numbers, the table).
+abbrev pub numberOf : Verdict → ℕ
+numberOf v = toldOf v .0
+
 abbrev pub detailOf : Verdict → ℕ
-detailOf Sound = 0
-detailOf NoBytes = 0
-detailOf Edition = 0
-detailOf JobCount = 0
-detailOf Length = 0
-detailOf (Interval k) = k
-detailOf (Stiffness k) = k
-detailOf (Spare k) = k
-detailOf (Pages k) = k
-detailOf NoPeriods = 0
-detailOf (Budget b) = b .0
-detailOf (Room k) = k
-detailOf (Row k) = k
-detailOf (Periods k) = k
+detailOf v = toldOf v .1
 
 -- A refusal where a test holds, else what comes after it: the order of the checks (Refusal numbers, order).
 unfoldable pub refuseIf : Bool → Verdict → Verdict → Verdict
@@ -211,6 +180,14 @@ verdictOf p =
     refuseIf (eqb (p .n) 0) JobCount
     (refuseIf (ltb 8 (p .n)) JobCount (firstRefused judgeJob 0 (jobsOf p)))
 
--- What `judge` may answer.
-abbrev pub Judged : Profile → Verdict → Type 0
-Judged p r = r ≡ verdictOf p
+-- The verdict on putting `count` rows of sixteen bytes into `size` lent bytes: the profile's own, then 9 where there are none,
+-- then 11 (Refusal numbers, order).
+unfoldable pub rowsVerdict : Profile → ℕ → ℕ → Verdict
+rowsVerdict p count size = orElse (verdictOf p) (refuseIf (eqb count 0) NoPeriods (refuseIf (ltb (size / 16) count) (Room count) Sound))
+
+-- What an operation that puts rows into a lent buffer may answer, and leave of one that held `old`: the count, and the rows'
+-- bytes, `front`, before the rest; beside a refusal 0, and every byte as it was (The table: room; Refusal numbers).
+pub record PutsRows (p : Profile) (rows : ℕ) (front old : List ℕ) (r : Counted) (new : List ℕ) : Type 0 where
+  pub verdict : r .verdict ≡ rowsVerdict p rows (length old)
+  pub count : r .count ≡ ifSound (rowsVerdict p rows (length old)) rows 0
+  pub bytes : new ≡ ifSound (rowsVerdict p rows (length old)) (front ++ drop (16 * rows) old) old

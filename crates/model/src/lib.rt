@@ -3,7 +3,7 @@
 // specs/Model.antt says what a plan is and when it is right; every public contract of the planner is stated with it.
 // Nothing is assumed, and no function here has a `requires`.
 ghost use mathlib.Core.Path.{_≡_};
-ghost use Rattle.model.specs.Model.{numberOf, detailOf, judgeIntervalAndStiffness, judgeJob, Judged};
+ghost use Rattle.model.specs.Model.{numberOf, detailOf, judgeIntervalAndStiffness, judgeJob, verdictOf};
 
 // Whole seconds: a period, or an end of a job's interval.
 pub struct Seconds(pub u32);
@@ -105,7 +105,7 @@ pub fn detail(v: Verdict) -> u64
 
 // The verdict on a profile given as values: 3, then the first bad job, within it 5, 6, 8.
 pub fn judge(p: Profile) -> Verdict
-    ensures { λ r. ⌜ Judged p r ⌝ }
+    ensures { λ r. ⌜ r ≡ verdictOf p ⌝ }
 {
     let n = p.n;
     if n == 0 {

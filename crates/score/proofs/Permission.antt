@@ -15,7 +15,8 @@ use Rattle.model.specs.declared.Job.{Job}
 use Rattle.model.specs.declared.Profile.{Profile}
 use Rattle.model.specs.declared.Verdict.{Verdict}
 use Rattle.model.specs.declared.Verdict.the-variants.{Sound, Periods}
-use Rattle.model.specs.Model.{seconds, noJob, entries, jobsOf, periodsOf, ValidJob, Valid, Allowed, PermittedAfter, Permitted, refuseIf, orElse, numberOf}
+use Rattle.model.specs.Model.{seconds, noJob, entries, jobsOf, periodsOf, Allowed, PermittedAfter, Permitted, refuseIf, orElse, numberOf}
+use Rattle.model.specs.Valid.{ValidJob, Valid}
 use Rattle.model.proofs.Entries.{entries-step, entries-end}
 use Rattle.model.proofs.Validity.{job-valid-at}
 use Rattle.model.proofs.Verdicts.{test-passed, both-sound, sound-passes}

@@ -8,7 +8,8 @@ use native.Mathlib.Omega.{arith}
 use lib.ListN.{getD}
 use Rattle.model.specs.declared.Seconds.{Seconds}
 use Rattle.model.specs.declared.Job.{Job}
-use Rattle.model.specs.Model.{seconds, noJob, entries, cost, ValidJob, lastOf, pagesIn, jobLoss, loss}
+use Rattle.model.specs.Model.{seconds, noJob, entries, cost, lastOf, pagesIn, jobLoss, loss}
+use Rattle.model.specs.Valid.{ValidJob}
 use Rattle.model.proofs.Entries.{entries-step, entries-end}
 use Rattle.model.proofs.Bounds.{cost-bound}
 

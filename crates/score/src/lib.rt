@@ -9,7 +9,8 @@ use model::Seconds;
 use model::Verdict;
 ghost use mathlib.Core.Path.{_≡_};
 ghost use Prim.Native.Nat.{_*_, _/_, _≤_};
-ghost use Rattle.model.specs.Model.{seconds, cost, jobsOf, periodsOf, Valid, ValidJob, Permitted, pagesIn, need, rate, jobLoss, loss};
+ghost use Rattle.model.specs.Model.{seconds, cost, jobsOf, periodsOf, Permitted, pagesIn, need, rate, jobLoss, loss};
+ghost use Rattle.model.specs.Valid.{Valid, ValidJob};
 ghost use Rattle.score.specs.Scoring.{judgePeriod, firstUnpermitted, Scores};
 
 // What scoring answers: need and loss, zeros beside a refusal.

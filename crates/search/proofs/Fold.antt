@@ -10,7 +10,8 @@ use native.Mathlib.Nat.{le-refl}
 use Rattle.model.specs.declared.Seconds.{Seconds}
 use Rattle.model.specs.declared.PagesPerHour.{PagesPerHour}
 use Rattle.model.specs.declared.Job.{Job}
-use Rattle.model.specs.Model.{seconds, ValidJobs, Permitted, need, FitsBudget, loss, NotAfter, NoWorse, Best}
+use Rattle.model.specs.Model.{seconds, Permitted, need, FitsBudget, loss, NotAfter, NoWorse, Best}
+use Rattle.model.specs.Valid.{ValidJobs}
 use Rattle.walk.specs.Chains.{chains}
 use Rattle.walk.specs.Walk.{visit, start, walk}
 use Rattle.offers.specs.Found.{Found, nothing, found, pick}

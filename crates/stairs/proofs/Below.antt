@@ -10,7 +10,8 @@ use lib.ListN.{getD, take}
 use lib.Seq.{getD-take}
 use Rattle.model.specs.declared.Seconds.{Seconds}
 use Rattle.model.specs.declared.Profile.{Profile}
-use Rattle.model.specs.Model.{seconds, pagesPerHour, noJob, jobsOf, Valid}
+use Rattle.model.specs.Model.{seconds, pagesPerHour, noJob, jobsOf}
+use Rattle.model.specs.Valid.{Valid}
 use Rattle.model.proofs.Entries.{length-entries}
 use Rattle.walk.specs.Arrays.{Held}
 use Rattle.walk.specs.Steps.{periodsIn}

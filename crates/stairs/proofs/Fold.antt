@@ -11,7 +11,8 @@ use native.Mathlib.Nat.{le-refl, le-trans}
 use lib.ListN.{length}
 use Rattle.model.specs.declared.Seconds.{Seconds}
 use Rattle.model.specs.declared.Job.{Job}
-use Rattle.model.specs.Model.{seconds, ValidJobs, Permitted, need, loss, NotAfter}
+use Rattle.model.specs.Model.{seconds, Permitted, need, loss, NotAfter}
+use Rattle.model.specs.Valid.{ValidJobs}
 use Rattle.walk.specs.Chains.{chains}
 use Rattle.walk.specs.Walk.{visit, start, walk}
 use Rattle.stairs.specs.Stairs.{Stair, stair, Stairs, noBound, noStairs, covered, among, atMost, enter}

@@ -10,7 +10,8 @@ use lib.ListN.{length}
 use Rattle.model.specs.declared.Seconds.{Seconds}
 use Rattle.model.specs.declared.PagesPerHour.{PagesPerHour}
 use Rattle.model.specs.declared.Job.{Job}
-use Rattle.model.specs.Model.{pagesPerHour, ValidJobs, Permitted, need, loss, NotAfter, NoWorse}
+use Rattle.model.specs.Model.{pagesPerHour, Permitted, need, loss, NotAfter, NoWorse}
+use Rattle.model.specs.Valid.{ValidJobs}
 use Rattle.model.proofs.Bounds.{mostLoss, job-loss-bound}
 use Rattle.walk.specs.Walk.{start, walk}
 use Rattle.stairs.specs.Stairs.{Stair, Stairs, noBound, noStairs, enter}

@@ -9,7 +9,7 @@ ghost use mathlib.Core.Path.{_≡_};
 ghost use mathlib.Core.Bool.{false};
 ghost use Prim.Native.Nat.{_^_, _≤_, _<_};
 ghost use lib.ListN.{length, getD};
-ghost use Rattle.model.specs.Model.{Valid};
+ghost use Rattle.model.specs.Valid.{Valid};
 ghost use Rattle.walk.specs.Steps.{NeedFits, Ready, ReadyForCut};
 ghost use Rattle.stairs.specs.Stairs.{noBound};
 ghost use Rattle.stairs.specs.Next.{AnswersBelow};

@@ -10,7 +10,8 @@ use lib.ListN.{length}
 use Rattle.model.specs.declared.Seconds.{Seconds}
 use Rattle.model.specs.declared.PagesPerHour.{PagesPerHour}
 use Rattle.model.specs.declared.Job.{Job}
-use Rattle.model.specs.Model.{seconds, cost, ValidJobs, Permitted, lastOf, pagesIn, need, FitsBudget, loss, Best}
+use Rattle.model.specs.Model.{seconds, cost, Permitted, lastOf, pagesIn, need, FitsBudget, loss, Best}
+use Rattle.model.specs.Valid.{ValidJobs}
 use Rattle.model.proofs.Bounds.{cost-bound, need-bound}
 use Rattle.walk.specs.Walk.{walk, start}
 use Rattle.offers.specs.Found.{Found, nothing, found, pick}

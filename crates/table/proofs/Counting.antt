@@ -8,7 +8,8 @@ use native.Mathlib.Nat.{le-refl}
 use lib.ListN.{length}
 use Rattle.model.specs.declared.Job.{Job}
 use Rattle.model.specs.declared.Profile.{Profile}
-use Rattle.model.specs.Model.{jobsOf, Valid}
+use Rattle.model.specs.Model.{jobsOf}
+use Rattle.model.specs.Valid.{Valid}
 use Rattle.stairs.specs.Rows.{needIn}
 use Rattle.stairs.specs.Next.{AnswersBelow}
 use Rattle.table.specs.Descent.{rowsBelow, allBudgets}

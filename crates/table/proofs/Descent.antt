@@ -11,7 +11,8 @@ use lib.ListN.{length, length-append}
 use Rattle.model.specs.declared.Seconds.{Seconds}
 use Rattle.model.specs.declared.PagesPerHour.{PagesPerHour}
 use Rattle.model.specs.declared.Job.{Job}
-use Rattle.model.specs.Model.{pagesPerHour, ValidJobs, Permitted, need, FitsBudget, Best}
+use Rattle.model.specs.Model.{pagesPerHour, Permitted, need, FitsBudget, Best}
+use Rattle.model.specs.Valid.{ValidJobs}
 use Rattle.walk.specs.Walk.{walk, start}
 use Rattle.offers.specs.Found.{Found, nothing, found, pick}
 use Rattle.search.proofs.Fold.{BestOrNone, walk-best}

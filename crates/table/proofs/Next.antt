@@ -9,7 +9,8 @@ use Rattle.model.specs.declared.Seconds.{Seconds}
 use Rattle.model.specs.declared.PagesPerHour.{PagesPerHour}
 use Rattle.model.specs.declared.Job.{Job}
 use Rattle.model.specs.declared.Profile.{Profile}
-use Rattle.model.specs.Model.{jobsOf, ValidJobs, Valid}
+use Rattle.model.specs.Model.{jobsOf}
+use Rattle.model.specs.Valid.{ValidJobs, Valid}
 use Rattle.stairs.specs.Stairs.{Stair, stair}
 use Rattle.stairs.specs.Rows.{needIn, stairsIn}
 use Rattle.stairs.specs.Next.{Answer, NextAnswers, lastNeed, AnswersUnder, AnswersBelow}

@@ -15,7 +15,8 @@ use Rattle.model.specs.declared.Job.{Job}
 use Rattle.model.specs.declared.Profile.{Profile}
 use Rattle.model.specs.declared.Counted.{Counted}
 use Rattle.model.specs.declared.Verdict.the-variants.{Sound}
-use Rattle.model.specs.Model.{noJob, jobsOf, ValidJobs, Permitted, need, FitsBudget, Best, verdictOf}
+use Rattle.model.specs.Model.{noJob, jobsOf, Permitted, need, FitsBudget, Best, verdictOf}
+use Rattle.model.specs.Valid.{ValidJobs}
 use Rattle.model.proofs.Entries.{length-entries}
 use Rattle.model.proofs.Validity.{sound-valid}
 use Rattle.choose.specs.declared.Choice.{Choice}

@@ -12,7 +12,8 @@ use lib.Seq.{take-take, take-append-le, take-length, drop-at, length-take-le}
 use Rattle.model.specs.declared.Seconds.{Seconds}
 use Rattle.model.specs.declared.Job.{Job}
 use Rattle.model.specs.declared.Profile.{Profile}
-use Rattle.model.specs.Model.{seconds, jobsOf, entries, ValidJobs, Valid, PermittedAfter, need}
+use Rattle.model.specs.Model.{seconds, jobsOf, entries, PermittedAfter, need}
+use Rattle.model.specs.Valid.{ValidJobs, Valid}
 use Rattle.codec.specs.Packing.{bits, pack, recut}
 use Rattle.codec.specs.Layout.{byteWidths}
 use Rattle.codec.specs.RowWords.{rowBytes, withRow}

@@ -3,17 +3,15 @@
 use mathlib.Core.Path.{_≡_}
 use mathlib.Core.Logic.{_↔_}
 use mathlib.Core.List.{List, [], _∷_, _++_, List·Memᴰ}
-use Prim.Native.Nat.{ℕ, _*_, _/_, _^_, _<_}
-use lib.ListN.{length, drop}
-use lib.Dec.{eqb, ltb}
+use Prim.Native.Nat.{ℕ, _^_, _<_}
+use lib.ListN.{length}
 use Rattle.model.specs.declared.Seconds.{Seconds}
 use Rattle.model.specs.declared.PagesPerHour.{PagesPerHour}
 use Rattle.model.specs.declared.Job.{Job}
 use Rattle.model.specs.declared.Profile.{Profile}
 use Rattle.model.specs.declared.Counted.{Counted}
-use Rattle.model.specs.declared.Verdict.{Verdict}
-use Rattle.model.specs.declared.Verdict.the-variants.{Sound, NoPeriods, Room}
-use Rattle.model.specs.Model.{jobsOf, Permitted, need, Best, refuseIf, orElse, ifSound, verdictOf}
+use Rattle.model.specs.declared.Verdict.the-variants.{Sound}
+use Rattle.model.specs.Model.{jobsOf, Permitted, need, Best, verdictOf, PutsRows}
 use Rattle.codec.specs.Rows.{tableRow}
 
 -- Each row's need is below that of every later row (The table: rising start).
@@ -32,16 +30,10 @@ unfoldable pub tableBytes : List Job → List (List Seconds) → List ℕ
 tableBytes js [] = []
 tableBytes js (ts ∷ rows) = tableRow (need js ts) ts ++ tableBytes js rows
 
--- The verdict on building `count` rows into `size` lent bytes: the profile's own, then 9, then 11 (Refusal numbers, order; The table: room).
-unfoldable pub buildVerdict : Profile → ℕ → ℕ → Verdict
-buildVerdict p count size = orElse (verdictOf p) (refuseIf (eqb count 0) NoPeriods (refuseIf (ltb (size / 16) count) (Room count) Sound))
-
 -- What `build_table` may answer, and leave of a lent buffer that held `old`; for a refused profile nothing is said of `rows`.
 -- There are no rows, and so 9 is answered, exactly where no list is permitted (Refusal numbers, 9).
 pub record Built (p : Profile) (old : List ℕ) (r : Counted) (new : List ℕ) : Type 0 where
   pub rows : List (List Seconds)
   pub are : verdictOf p ≡ Sound → TableOf (jobsOf p) rows
   pub none : verdictOf p ≡ Sound → (length rows ≡ 0) ↔ ((ts : List Seconds) → Permitted (jobsOf p) ts → ⊥)
-  pub verdict : r .verdict ≡ buildVerdict p (length rows) (length old)
-  pub count : r .count ≡ ifSound (buildVerdict p (length rows) (length old)) (length rows) 0
-  pub bytes : new ≡ ifSound (buildVerdict p (length rows) (length old)) (tableBytes (jobsOf p) rows ++ drop (16 * length rows) old) old
+  pub puts : PutsRows p (length rows) (tableBytes (jobsOf p) rows) old r new

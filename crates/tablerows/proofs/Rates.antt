@@ -12,7 +12,8 @@ use Rattle.model.specs.declared.Seconds.{Seconds}
 use Rattle.model.specs.declared.PagesPerHour.{PagesPerHour}
 use Rattle.model.specs.declared.Job.{Job}
 use Rattle.model.specs.declared.Profile.{Profile}
-use Rattle.model.specs.Model.{pagesPerHour, noJob, cost, ValidJob, rate, jobLoss}
+use Rattle.model.specs.Model.{pagesPerHour, noJob, cost, rate, jobLoss}
+use Rattle.model.specs.Valid.{ValidJob}
 use Rattle.model.proofs.Bounds.{rate-bound, rate-falls}
 use Rattle.walk.specs.Steps.{lossAt, LossFits}
 use Rattle.tablerows.specs.Checks.{Fastest}

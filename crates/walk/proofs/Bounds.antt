@@ -9,7 +9,8 @@ use lib.ListN.{length}
 use Rattle.model.specs.declared.Seconds.{Seconds}
 use Rattle.model.specs.declared.Job.{Job}
 use Rattle.model.proofs.Bounds.{mostLoss, job-loss-bound, mostRate, rate-bound, need-bound as span-need-bound}
-use Rattle.model.specs.Model.{seconds, cost, ValidJob, ValidJobs, Allowed, roundUp}
+use Rattle.model.specs.Model.{seconds, cost, Allowed, roundUp}
+use Rattle.model.specs.Valid.{ValidJob, ValidJobs}
 use Rattle.walk.specs.Walk.{lossFloor, leastNeeds, Node, start, next, Bounded}
 use Rattle.model.proofs.Rounding.{multiple-is}
 

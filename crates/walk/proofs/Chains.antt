@@ -8,7 +8,8 @@ use native.Mathlib.Omega.{arith}
 use native.Mathlib.Nat.{le-div-iff-mul-le, mul-mod-left, div-zero, add-div-right, div-eq-of-lt}
 use Rattle.model.specs.declared.Seconds.{Seconds}
 use Rattle.model.specs.declared.Job.{Job}
-use Rattle.model.specs.Model.{seconds, ValidJobs, Allowed, PermittedAfter, roundUp}
+use Rattle.model.specs.Model.{seconds, Allowed, PermittedAfter, roundUp}
+use Rattle.model.specs.Valid.{ValidJobs}
 use Rattle.walk.specs.Chains.{climb, risingFrom, multiples, chainsBy, chains}
 use Rattle.model.proofs.Rounding.{round-up-le, round-up-above, multiple-is, split-product}
 use Rattle.walk.proofs.Sorted.{in-flat, flat-has, Sorted, Rising, sorted-flat}

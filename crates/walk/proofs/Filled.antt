@@ -10,7 +10,8 @@ use lib.ListN.{length, getD, set, replicate, length-set, getD-replicate}
 use lib.Seq.{getD-set-same, getD-set-other}
 use Rattle.model.specs.declared.Job.{Job}
 use Rattle.model.specs.declared.Profile.{Profile}
-use Rattle.model.specs.Model.{noJob, entries, jobsOf, cost, ValidJob, ValidJobs, Valid, rate}
+use Rattle.model.specs.Model.{noJob, entries, jobsOf, cost, rate}
+use Rattle.model.specs.Valid.{ValidJob, ValidJobs, Valid}
 use Rattle.model.proofs.Entries.{entries-step, entries-end}
 use Rattle.walk.specs.Walk.{leastNeeds}
 use Rattle.walk.specs.Arrays.{HoldsJob, HoldsJobs, Held, jobAt, Filled, first, second, SecondsFrom, PagesFrom, needsFrom, RatesFrom, StiffnessesFrom}

@@ -8,7 +8,8 @@ use native.Mathlib.Omega.{arith}
 use native.Mathlib.Nat.{le-refl, le-trans, add-le-add, mul-le-mul-left, mul-le-mul-right, pow-le-pow-left, div-mul-le-self, le-div-iff-mul-le, le-of-mul-le-mul-right, mod-self, mod-eq-of-lt}
 use Rattle.model.specs.declared.Seconds.{Seconds}
 use Rattle.model.specs.declared.Job.{Job}
-use Rattle.model.specs.Model.{cost, ValidJob, ValidJobs, Allowed, PermittedAfter, lastOf, roundUp, rate, jobLoss, loss}
+use Rattle.model.specs.Model.{cost, Allowed, PermittedAfter, lastOf, roundUp, rate, jobLoss, loss}
+use Rattle.model.specs.Valid.{ValidJob, ValidJobs}
 use Rattle.walk.specs.Walk.{pagesAfter, needAfter, lossFloor, leastNeeds, needFloor}
 use Rattle.model.proofs.Rounding.{round-up-le, round-up-above, multiple-is, split-product}
 use Rattle.walk.proofs.Pages.{multiple-trans}

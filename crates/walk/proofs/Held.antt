@@ -10,7 +10,8 @@ use lib.ListN.{getD}
 use Rattle.model.specs.declared.Seconds.{Seconds}
 use Rattle.model.specs.declared.Job.{Job}
 use Rattle.model.proofs.Bounds.{mostLoss}
-use Rattle.model.specs.Model.{cost, ValidJobs, rate, jobLoss}
+use Rattle.model.specs.Model.{cost, rate, jobLoss}
+use Rattle.model.specs.Valid.{ValidJobs}
 use Rattle.walk.specs.Arrays.{HoldsJob, Held}
 use Rattle.walk.specs.Steps.{lossAt, LossFits, needAt, NeedFits}
 use Rattle.model.proofs.Rounding.{round-up-le}

@@ -5,7 +5,8 @@ use mathlib.Core.List.{List, _∷_}
 use Prim.Native.Nat.{ℕ, _+_, _*_, _-_, _/_, _≤_, _<_}
 use Rattle.model.specs.declared.Seconds.{Seconds}
 use Rattle.model.specs.declared.Job.{Job}
-use Rattle.model.specs.Model.{seconds, ValidJobs, roundUp, jobLoss}
+use Rattle.model.specs.Model.{seconds, roundUp, jobLoss}
+use Rattle.model.specs.Valid.{ValidJobs}
 use Rattle.walk.specs.Chains.{multiples, multiplesDown}
 use Rattle.walk.specs.Walk.{lossFloor, visit, Node, next, walkBy, walk, walkDown, walkFrom, walkDownFrom}
 use Rattle.walk.proofs.Chains.{multiples-lists, rising-step, rising-end}

@@ -10,7 +10,8 @@ use native.Mathlib.Nat.{le-refl, le-antisymm, mul-mod-left, mul-mod-right, mod-o
 use native.Mathlib.Decide.{ℕ-discrete}
 use Rattle.model.specs.declared.Seconds.{Seconds}
 use Rattle.model.specs.declared.Job.{Job}
-use Rattle.model.specs.Model.{seconds, cost, ValidJobs, PermittedAfter, lastOf, roundUp, rate, jobLoss, loss}
+use Rattle.model.specs.Model.{seconds, cost, PermittedAfter, lastOf, roundUp, rate, jobLoss, loss}
+use Rattle.model.specs.Valid.{ValidJobs}
 use Rattle.walk.specs.Chains.{chainsBy}
 use Rattle.walk.specs.Walk.{pagesAfter, needAfter, visit, Node, next, walkBy}
 use Rattle.walk.specs.Steps.{PassedOver}

@@ -8,7 +8,8 @@ use native.Mathlib.Omega.{arith}
 use native.Mathlib.Nat.{mul-mod-left, mod-self, div-self, div-eq-of-eq-mul-left}
 use Rattle.model.specs.declared.Seconds.{Seconds}
 use Rattle.model.specs.declared.Job.{Job}
-use Rattle.model.specs.Model.{seconds, pagesPerHour, cost, ValidJobs, PermittedAfter, Permitted, lastOf, pagesIn, roundUp, need}
+use Rattle.model.specs.Model.{seconds, pagesPerHour, cost, PermittedAfter, Permitted, lastOf, pagesIn, roundUp, need}
+use Rattle.model.specs.Valid.{ValidJobs}
 use Rattle.walk.specs.Walk.{pagesAfter, needAfter}
 use Rattle.model.proofs.Rounding.{round-up-le, multiple-is}
 

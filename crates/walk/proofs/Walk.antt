@@ -8,7 +8,8 @@ use native.Mathlib.Nat.{le-refl, le-trans, add-assoc, add-zero, zero-add}
 use lib.Seq.{append-snoc}
 use Rattle.model.specs.declared.Seconds.{Seconds}
 use Rattle.model.specs.declared.Job.{Job}
-use Rattle.model.specs.Model.{seconds, cost, ValidJobs, PermittedAfter, lastOf, roundUp, need, jobLoss, loss}
+use Rattle.model.specs.Model.{seconds, cost, PermittedAfter, lastOf, roundUp, need, jobLoss, loss}
+use Rattle.model.specs.Valid.{ValidJobs}
 use Rattle.walk.specs.Chains.{risingFrom, chainsBy}
 use Rattle.walk.specs.Walk.{pagesAfter, needAfter, lossFloor, needFloor, visit, Node, start, next, walkBy}
 use Rattle.walk.proofs.Chains.{ListsAllowed, chains-only, rising-from}

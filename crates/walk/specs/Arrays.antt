@@ -7,7 +7,8 @@ use Prim.Native.Nat.{ℕ, _+_, _-_, _≤_, _<_}
 use lib.ListN.{length, getD}
 use Rattle.model.specs.declared.Job.{Job}
 use Rattle.model.specs.declared.Profile.{Profile}
-use Rattle.model.specs.Model.{noJob, entries, cost, ValidJob, rate}
+use Rattle.model.specs.Model.{noJob, entries, cost, rate}
+use Rattle.model.specs.Valid.{ValidJob}
 use Rattle.walk.specs.Walk.{leastNeeds}
 
 -- The job at place k of a profile.

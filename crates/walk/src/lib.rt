@@ -11,7 +11,8 @@ use model::Seconds;
 ghost use mathlib.Core.Path.{_≡_};
 ghost use mathlib.Core.Bool.{true, false};
 ghost use Prim.Native.Nat.{_≤_, _<_, max};
-ghost use Rattle.model.specs.Model.{pagesPerHour, cost, Valid, ValidJob};
+ghost use Rattle.model.specs.Model.{pagesPerHour, cost};
+ghost use Rattle.model.specs.Valid.{Valid, ValidJob};
 ghost use Rattle.walk.specs.Arrays.{SecondsFrom, PagesFrom, RatesFrom, StiffnessesFrom};
 ghost use Rattle.walk.specs.Steps.{lossAt, LossFits, needAt, NeedFits, Ends, Unreached, PassedOver, Repeats, Later, IsLossFloor};
 

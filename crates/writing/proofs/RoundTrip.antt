@@ -13,7 +13,8 @@ use Rattle.model.specs.declared.Profile.{Profile}
 use Rattle.model.specs.declared.Counted.{Counted}
 use Rattle.model.specs.declared.Verdict.{Verdict}
 use Rattle.model.specs.declared.Verdict.the-variants.{Sound}
-use Rattle.model.specs.Model.{noJob, ValidJob, ValidJobs, Valid, entries, jobsOf, refuseIf, ifSound, firstRefused, judgeIntervalAndStiffness, verdictOf}
+use Rattle.model.specs.Model.{noJob, entries, jobsOf, refuseIf, ifSound, firstRefused, judgeIntervalAndStiffness, verdictOf}
+use Rattle.model.specs.Valid.{ValidJob, ValidJobs, Valid}
 use Rattle.model.proofs.Entries.{length-entries, entries-front}
 use Rattle.model.proofs.Validity.{in-range, in-range-sound, sound-valid, valid-sound}
 use Rattle.model.proofs.Verdicts.{test-passed, both-sound, sound-passes}

@@ -10,7 +10,7 @@ ghost use mathlib.Core.Path.{_≡_};
 ghost use mathlib.Core.List.{_++_};
 ghost use Prim.Native.Nat.{_≤_};
 ghost use lib.ListN.{length, drop};
-ghost use Rattle.model.specs.Model.{Valid, ValidJob};
+ghost use Rattle.model.specs.Valid.{Valid, ValidJob};
 ghost use Rattle.codec.specs.Packing.{pack};
 ghost use Rattle.codec.specs.Layout.{jobWidths, profileLength, fieldsOf, profileBytes};
 ghost use Rattle.writing.specs.Writing.{Writes};

@@ -11,7 +11,8 @@ use lib.ListN.{length, length-append}
 use lib.Dec.{ltb}
 use borrow.Author.Tests.{ltb-false}
 use Rattle.model.specs.declared.Job.{Job}
-use Rattle.model.specs.Model.{roundUp, ValidJobs}
+use Rattle.model.specs.Model.{roundUp}
+use Rattle.model.specs.Valid.{ValidJobs}
 use Rattle.model.proofs.Rounding.{round-up-some}
 use Rattle.zonewalk.specs.Zone.{Zone}
 use Rattle.zonewalk.specs.Listing.{spanOf, climb, upTo, leastFor, greatestFor, unlessEmpty, zonesBelow, zonesIn, zonesFor}

@@ -13,7 +13,8 @@ use lib.Seq.{append-snoc}
 use lib.Dec.{ltb}
 use borrow.Author.Tests.{le-ltb, ltb-false}
 use Rattle.model.specs.declared.Job.{Job}
-use Rattle.model.specs.Model.{seconds, roundUp, ValidJobs}
+use Rattle.model.specs.Model.{seconds, roundUp}
+use Rattle.model.specs.Valid.{ValidJobs}
 use Rattle.model.proofs.Rounding.{round-up-le, round-up-some}
 use Rattle.zonewalk.specs.Zone.{Zone}
 use Rattle.zones.specs.Zones.{MultiplesAfter, InIntervals, IsZone, Before, Rising, ZonesOf}

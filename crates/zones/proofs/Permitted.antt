@@ -9,7 +9,8 @@ use native.Mathlib.Nat.{le-refl, one-mul, mul-assoc, mul-mod-left, div-add-mod',
 use lib.ListN.{length}
 use Rattle.model.specs.declared.Seconds.{Seconds}
 use Rattle.model.specs.declared.Job.{Job}
-use Rattle.model.specs.Model.{seconds, ValidJobs, PermittedAfter, Permitted}
+use Rattle.model.specs.Model.{seconds, PermittedAfter, Permitted}
+use Rattle.model.specs.Valid.{ValidJobs}
 use Rattle.zonewalk.specs.Zone.{Zone}
 use Rattle.zones.specs.Zones.{MultiplesAfter, InIntervals, IsZone}
 use Rattle.zonewalk.specs.Listing.{zonesFor}

@@ -3,15 +3,13 @@
 use mathlib.Core.Path.{_≡_}
 use mathlib.Core.Logic.{_↔_}
 use mathlib.Core.List.{List, [], _∷_, _++_, List·Memᴰ}
-use Prim.Native.Nat.{ℕ, _*_, _/_, _%_, _≤_}
-use lib.ListN.{length, getD, drop}
-use lib.Dec.{eqb, ltb}
+use Prim.Native.Nat.{ℕ, _*_, _%_, _≤_}
+use lib.ListN.{length, getD}
 use Rattle.model.specs.declared.Job.{Job}
 use Rattle.model.specs.declared.Profile.{Profile}
 use Rattle.model.specs.declared.Counted.{Counted}
-use Rattle.model.specs.declared.Verdict.{Verdict}
-use Rattle.model.specs.declared.Verdict.the-variants.{Sound, NoPeriods, Room}
-use Rattle.model.specs.Model.{entries, jobsOf, refuseIf, orElse, ifSound, verdictOf}
+use Rattle.model.specs.declared.Verdict.the-variants.{Sound}
+use Rattle.model.specs.Model.{entries, jobsOf, verdictOf, PutsRows}
 use Rattle.codec.specs.Layout.{byteWidths}
 use Rattle.codec.specs.Packing.{recut}
 use Rattle.zonewalk.specs.Zone.{Zone}
@@ -66,15 +64,9 @@ unfoldable pub rowsOf : List Zone → List ℕ
 rowsOf [] = []
 rowsOf (z ∷ zs) = recut zoneWidths (byteWidths 16) (zoneFields z) ++ rowsOf zs
 
--- The verdict on listing `count` zones into `size` lent bytes: the profile's own, then 9, then 11 (Refusal numbers, order).
--- No zones means that nothing is permitted: none-permitted in proofs/Permitted.antt.
-unfoldable pub listVerdict : Profile → ℕ → ℕ → Verdict
-listVerdict p count size = orElse (verdictOf p) (refuseIf (eqb count 0) NoPeriods (refuseIf (ltb (size / 16) count) (Room count) Sound))
-
 -- What `list_zones` may answer, and leave of a lent buffer that held `old`; for a refused profile nothing is said of `zones`.
+-- There are no zones, and so 9 is answered, exactly where nothing is permitted: none-permitted in proofs/Permitted.antt.
 pub record Listed (p : Profile) (old : List ℕ) (r : Counted) (new : List ℕ) : Type 0 where
   pub zones : List Zone
   pub are : verdictOf p ≡ Sound → ZonesOf (jobsOf p) zones
-  pub verdict : r .verdict ≡ listVerdict p (length zones) (length old)
-  pub count : r .count ≡ ifSound (listVerdict p (length zones) (length old)) (length zones) 0
-  pub bytes : new ≡ ifSound (listVerdict p (length zones) (length old)) (rowsOf zones ++ drop (16 * length zones) old) old
+  pub puts : PutsRows p (length zones) (rowsOf zones) old r new

@@ -10,7 +10,8 @@ use lib.ListN.{length, getD, set, length-set}
 use lib.Seq.{getD-set-same, getD-set-other}
 use Rattle.model.specs.declared.Job.{Job}
 use Rattle.model.specs.declared.Profile.{Profile}
-use Rattle.model.specs.Model.{noJob, entries, jobsOf, Valid}
+use Rattle.model.specs.Model.{noJob, entries, jobsOf}
+use Rattle.model.specs.Valid.{Valid}
 use Rattle.model.proofs.Validity.{job-valid-at}
 use Rattle.zonewalk.specs.Listing.{spanOf, spanAt, spansFrom, IntervalsOf, SpanWithin, Spans}
 

@@ -7,7 +7,8 @@ use native.Mathlib.Omega.{arith}
 use lib.ListN.{getD}
 use borrow.Author.Needs.{needs}
 use borrow.Author.Tests.{not-true, not-false}
-use Rattle.model.specs.Model.{seconds, noJob, Valid}
+use Rattle.model.specs.Model.{seconds, noJob}
+use Rattle.model.specs.Valid.{Valid}
 use Rattle.model.proofs.Validity.{job-valid-at}
 use Rattle.tablerows.specs.Table.{allows}
 use Rattle.lookup.proofs.Places.{allowed}

@@ -5,7 +5,8 @@ use mathlib.Core.List.{List}
 use Rattle.model.specs.declared.Seconds.{Seconds}
 use Rattle.model.specs.declared.Profile.{Profile}
 use Rattle.model.specs.declared.Verdict.{Verdict}
-use Rattle.model.specs.Model.{seconds, pagesPerHour, noJob, jobsOf, periodsOf, Valid, Permitted}
+use Rattle.model.specs.Model.{seconds, pagesPerHour, noJob, jobsOf, periodsOf, Permitted}
+use Rattle.model.specs.Valid.{Valid}
 use Rattle.model.proofs.Entries.{length-entries}
 use Rattle.model.proofs.Validity.{sound-valid}
 use Rattle.model.proofs.Verdicts.{Refuses, refuses, refused-stays, sound-passes, beside-sound, beside-refusal}

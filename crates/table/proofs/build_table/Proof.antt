@@ -4,11 +4,11 @@ use mathlib.Core.Path.{_≡_, sym, _∙_}
 use native.Mathlib.Omega.{arith}
 use borrow.Author.Needs.{needs}
 use Rattle.model.specs.declared.Verdict.the-variants.{Sound}
-use Rattle.model.specs.Model.{verdictOf}
+use Rattle.model.specs.Model.{verdictOf, rowsVerdict}
 use Rattle.model.proofs.Validity.{sound-valid}
 use Rattle.model.proofs.Verdicts.{refuses, refused-stays}
-use Rattle.table.specs.Table.{buildVerdict}
-use Rattle.table.proofs.Outcome.{handed-on, none-built, no-room, all-built}
+use Rattle.model.proofs.RowsPut.{none-put, no-rows, no-room}
+use Rattle.table.proofs.Outcome.{built, all-built}
 use Rattle.table.proofs.build_table.Statement.{statement}
 use Rattle.table.proofs.build_table.Tie as tie
 
@@ -22,10 +22,10 @@ enum-told : tie.Need-enum-told
 enum-told c = search needs
 
 returns : tie.Need-returns
-unfolding buildVerdict
+unfolding rowsVerdict
 returns c =
     let s = c .before in
-    handed-on _ _ _ (refuses (s .judge .result) (c .match .keys2)) (refused-stays _ (s .judge .ensures) (c .match .keys2))
+    built _ _ (none-put _ _ _ _ _ (refuses (s .judge .result) (c .match .keys2)) (refused-stays _ (s .judge .ensures) (c .match .keys2)))
 
 count-rows-requires : tie.Need-count-rows-requires
 count-rows-requires c κs = sound-valid _ (sound c)
@@ -33,12 +33,12 @@ count-rows-requires c κs = sound-valid _ (sound c)
 returns-2 : tie.Need-returns-2
 returns-2 c =
     let k = c .before in
-    none-built _ _ _ (sound (k .before)) (k .count-rows .ensures) (c .if1 .taken)
+    built _ _ (no-rows _ _ _ _ _ (sound (k .before)) (k .count-rows .ensures) (c .if1 .taken))
 
 returns-3 : tie.Need-returns-3
 returns-3 c =
     let k = c .before .before in
-    no-room _ _ _ (sound (k .before)) (k .count-rows .ensures) (c .before .if1 .left) (omega arith)
+    built _ _ (no-room _ _ _ _ _ (sound (k .before)) (k .count-rows .ensures) (c .before .if1 .left) (omega arith))
 
 write-rows-requires : tie.Need-write-rows-requires
 write-rows-requires c κs =

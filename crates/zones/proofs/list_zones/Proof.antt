@@ -6,14 +6,15 @@ use Prim.Native.Nat.{ℕ, _*_, _/_, _^_, _≤_, _<_}
 use borrow.Author.Needs.{needs}
 use lib.ListN.{length, drop}
 use Rattle.model.specs.declared.Verdict.the-variants.{Sound}
-use Rattle.model.specs.Model.{verdictOf}
+use Rattle.model.specs.Model.{verdictOf, rowsVerdict}
 use Rattle.model.proofs.Validity.{sound-valid}
 use Rattle.model.proofs.Verdicts.{refuses, refused-stays}
+use Rattle.model.proofs.RowsPut.{none-put, no-rows, no-room, all-put}
 use Rattle.zonewalk.specs.Listing.{Spans, spansFrom, zonesIn}
 use Rattle.zonewalk.specs.Zone.{Zone}
-use Rattle.zones.specs.Zones.{rowsOf, listVerdict}
+use Rattle.zones.specs.Zones.{rowsOf}
 use Rattle.zonewalk.proofs.Copied.{spans-within}
-use Rattle.zones.proofs.Outcome.{zonesOf, handed-on, none-listed, no-room, all-listed, zones-are, few-zones}
+use Rattle.zones.proofs.Outcome.{zonesOf, listed, zones-are, few-zones}
 use Rattle.zones.proofs.list_zones.Statement.{statement}
 use Rattle.zones.proofs.list_zones.Tie as tie
 
@@ -46,10 +47,10 @@ enum-told : tie.Need-enum-told
 enum-told c = search needs
 
 returns : tie.Need-returns
-unfolding listVerdict
+unfolding rowsVerdict
 returns c =
     let s = c .before in
-    handed-on _ _ _ (refuses (s .judge .result) (c .match .keys2)) (refused-stays _ (s .judge .ensures) (c .match .keys2))
+    listed _ _ (none-put _ _ _ _ _ (refuses (s .judge .result) (c .match .keys2)) (refused-stays _ (s .judge .ensures) (c .match .keys2)))
 
 cast-n : tie.Need-cast-n
 cast-n c = search needs
@@ -69,12 +70,12 @@ write-zones-requires c κs =
 returns-2 : tie.Need-returns-2
 returns-2 c =
     let k = c .before .before in
-    none-listed _ _ _ (sound (told k)) (counted k) (c .if1 .taken)
+    listed _ _ (no-rows _ _ _ _ _ (sound (told k)) (counted k) (c .if1 .taken))
 
 returns-3 : tie.Need-returns-3
 returns-3 c =
     let k = c .before .before .before in
-    no-room _ _ _ (sound (told k)) (counted k) (c .before .if1 .left) (c .if2 .taken)
+    listed _ _ (no-room _ _ _ _ _ (sound (told k)) (counted k) (c .before .if1 .left) (c .if2 .taken))
 
 write-zones-requires-2 : tie.Need-write-zones-requires-2
 unfolding Walkable
@@ -91,7 +92,7 @@ returns-4 c =
     let e = w .before .before .before .before in
     let k = e .before .before .before in
     let old = told k .before .before .before .before .args .out .now in
-    all-listed _ old _ (sound (told k)) (counted k) (e .before .if1 .left) (e .if2 .left) _ (w .write-zones2 .ensures .bytes (subst (λ (m : ℕ). m ≤ length old / 16) (k .write-zones .ensures .count) (e .if2 .left)) ∙ ap (λ (zs : List Zone). rowsOf zs ++ drop (16 * length zs) old) (zones-are _ _ _ (k .before .before .before .before .intervals .ensures)))
+    listed _ old (all-put _ _ _ old _ (sound (told k)) (counted k) (e .before .if1 .left) (e .if2 .left) _ (w .write-zones2 .ensures .bytes (subst (λ (m : ℕ). m ≤ length old / 16) (k .write-zones .ensures .count) (e .if2 .left)) ∙ ap (λ (zs : List Zone). rowsOf zs ++ drop (16 * length zs) old) (zones-are _ _ _ (k .before .before .before .before .intervals .ensures))))
 
 pub list-zones-spec : {M : Type 1} → statement M
 list-zones-spec =

@@ -1,0 +1,68 @@
+-- Rows put into a lent buffer: past the profile's own verdict their count and the room decide, and two outcomes are one. Zones and
+-- tables share this. Assumes nothing.
+use mathlib.Core.Path.{_≡_, refl, sym, _∙_, ap, ap₂}
+use mathlib.Core.Bool.{Bool, true, false}
+use mathlib.Core.List.{List, _++_}
+use Prim.Native.Nat.{ℕ, _*_, _/_, _≤_, _<_}
+use lib.ListN.{length, drop}
+use lib.Dec.{eqb, ltb}
+use borrow.Author.Tests.{eqb-true, lt-ltb, le-ltb, eq-eqb, ne-eqb}
+use Rattle.model.specs.declared.Profile.{Profile}
+use Rattle.model.specs.declared.Counted.{Counted}
+use Rattle.model.specs.declared.Verdict.{Verdict}
+use Rattle.model.specs.declared.Verdict.the-variants.{Sound, NoPeriods, Room}
+use Rattle.model.specs.Model.{numberOf, refuseIf, orElse, ifSound, verdictOf, rowsVerdict, PutsRows}
+use Rattle.model.proofs.Verdicts.{Refuses, sound-of-zero, sound-passes, beside-sound, beside-refusal}
+
+-- a refusal leaves the buffer as it was, and the count zero
+pub none-put : (p : Profile) (rows : ℕ) (bytes old : List ℕ) (v : Verdict) → Refuses v → v ≡ rowsVerdict p rows (length old) → PutsRows p rows bytes old (record { verdict = v; count = 0 }) old
+none-put p rows bytes old v h e = record { verdict = e; count = beside-refusal _ _ h e; bytes = beside-refusal _ _ h e }
+
+-- past the profile's own verdict, with the rows counted
+module _ (p : Profile) (rows : ℕ) (bytes old : List ℕ) (count : ℕ) (sound : verdictOf p ≡ Sound) (is : count ≡ rows) where
+  passed : rowsVerdict p rows (length old) ≡ refuseIf (eqb count 0) NoPeriods (refuseIf (ltb (length old / 16) count) (Room count) Sound)
+  unfolding rowsVerdict
+  passed = sound-passes _ refl sound ∙ ap (λ (k : ℕ). refuseIf (eqb k 0) NoPeriods (refuseIf (ltb (length old / 16) k) (Room k) Sound)) (sym is)
+
+  pub no-rows : count ≡ 0 → PutsRows p rows bytes old (record { verdict = NoPeriods; count = 0 }) old
+  unfolding refuseIf
+  no-rows e = none-put p rows bytes old NoPeriods tt (sym (passed ∙ simp (eq-eqb count 0 e)))
+
+  pub no-room : (count ≡ 0 → ⊥) → length old / 16 < count → PutsRows p rows bytes old (record { verdict = Room count; count = 0 }) old
+  unfolding refuseIf
+  no-room some h = none-put p rows bytes old (Room count) tt (sym (passed ∙ simp (ne-eqb count 0 some, lt-ltb (length old / 16) count h)))
+
+  pub all-put : (count ≡ 0 → ⊥) → count ≤ length old / 16 → (new : List ℕ) → new ≡ bytes ++ drop (16 * rows) old → PutsRows p rows bytes old (record { verdict = Sound; count = count }) new
+  unfolding refuseIf
+  all-put some h new e =
+      let v : Sound ≡ rowsVerdict p rows (length old) = sym (passed ∙ simp (ne-eqb count 0 some, le-ltb (length old / 16) count h)) in
+      record { verdict = v; count = is ∙ beside-sound _ _ v; bytes = e ∙ beside-sound _ _ v }
+
+-- answer and bytes, as the rows decide them
+abbrev answer : Profile → List ℕ → ℕ → Counted
+answer p old rows = record { verdict = rowsVerdict p rows (length old); count = ifSound (rowsVerdict p rows (length old)) rows 0 }
+
+abbrev left : Profile → List ℕ → ℕ → List ℕ → List ℕ
+left p old rows bytes = ifSound (rowsVerdict p rows (length old)) (bytes ++ drop (16 * rows) old) old
+
+-- beside a refused profile any rows decide alike
+refused-alike : (p : Profile) (old : List ℕ) (k l : ℕ) (bytes others : List ℕ) → eqb (numberOf (verdictOf p)) 0 ≡ false → (answer p old k ≡ answer p old l) × (left p old k bytes ≡ left p old l others)
+unfolding rowsVerdict orElse refuseIf ifSound
+refused-alike p old k l bytes others e = (simp e, simp e)
+
+-- Where a sound profile has the same rows for both, there is one outcome.
+pub rows-one-outcome : (p : Profile) (old : List ℕ) {k l : ℕ} {bytes others : List ℕ} {r s : Counted} {new other-new : List ℕ} → (verdictOf p ≡ Sound → (k ≡ l) × (bytes ≡ others))
+    → PutsRows p k bytes old r new → PutsRows p l others old s other-new → (r ≡ s) × (new ≡ other-new)
+rows-one-outcome p old {k} {l} {bytes} {others} same one other = (is one ∙ alike .0 ∙ sym (is other), one .bytes ∙ alike .1 ∙ sym (other .bytes))
+  where
+    is : {m : ℕ} {held : List ℕ} {q : Counted} {after : List ℕ} → (put : PutsRows p m held old q after) → q ≡ answer p old m
+    is put = λ i. record { verdict = put .verdict i; count = put .count i }
+
+    decide : (t : Bool) → eqb (numberOf (verdictOf p)) 0 ≡ t → (answer p old k ≡ answer p old l) × (left p old k bytes ≡ left p old l others)
+    decide true e =
+        let alike = same (sound-of-zero (verdictOf p) (eqb-true _ 0 e)) in
+        (ap (answer p old) (alike .0), ap₂ (left p old) (alike .0) (alike .1))
+    decide false e = refused-alike p old k l bytes others e
+
+    alike : (answer p old k ≡ answer p old l) × (left p old k bytes ≡ left p old l others)
+    alike = decide (eqb (numberOf (verdictOf p)) 0) refl
