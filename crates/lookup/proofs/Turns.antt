@@ -23,8 +23,7 @@ use Rattle.walk.proofs.Bounds.{start-bounded, next-bounded}
 use Rattle.walk.proofs.Pages.{need-is as need-after}
 use Rattle.tablerows.specs.declared.TableRow.{TableRow}
 use Rattle.tablerows.specs.Table.{startAt, periodsAt, needAt, lossAt, allows, follows}
-use Rattle.tablerows.specs.Cut.{rowAt}
-use Rattle.tablerows.specs.Checks.{zerosFrom}
+use Rattle.tablerows.specs.Cut.{rowAt, zerosFrom}
 use Rattle.lookup.specs.Lookup.{placesRight, rowRight, firstBad}
 use Rattle.lookup.proofs.Judging.{bad-row, good-row, no-row, place-broken, start-broken, last-rule, bad-place, good-place}
 use Rattle.lookup.proofs.Places.{allowed, of-job, beyond-jobs, places-permitted}

@@ -78,7 +78,7 @@ fn first_bad_row(p: Profile, table: &[u8]) -> usize
     ensures { λ r. ⌜ r ≡ firstBad p (now (table .entry)) 0 (rowsIn (now (table .entry))) ⌝ }
 {
     let n = p.n as usize;
-    let fastest = tablerows::fastest_rates(p);
+    let rates = walk::rates_of(p);
     let rows = table.len() / 16;
     let mut start_before = PagesPerHour(0);
     let mut loss_before: u64 = 0;
@@ -100,9 +100,9 @@ fn first_bad_row(p: Profile, table: &[u8]) -> usize
             if !tablerows::allowed(j, before, t) {
                 break 'rows k + 1;
             }
-            let rate = fastest[i];
+            let fastest = rates[i];
             written = tablerows::written_with(j, written, before, t);
-            lost += tablerows::job_loss(j, rate, t);
+            lost += tablerows::job_loss(j, PagesPerHour(fastest), t);
             before = t;
             i += 1;
         }

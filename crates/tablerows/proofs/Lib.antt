@@ -1,4 +1,4 @@
 pub mod Cutting
+pub mod Losses
 pub mod OneOutcome
-pub mod Rates
 pub mod Zeros

@@ -10,7 +10,7 @@ use lib.Dec.{eqb}
 use borrow.Author.Tests.{eq-eqb, ne-eqb}
 use Rattle.model.specs.declared.Seconds.{Seconds}
 use Rattle.model.specs.Model.{seconds}
-use Rattle.tablerows.specs.Checks.{zerosFrom}
+use Rattle.tablerows.specs.Cut.{zerosFrom}
 
 module _ (ts : List Seconds) (i : ℕ) where
   one-checked : i < 8 → zerosFrom ts i (8 - i) ≡ eqb (getD ts i (seconds 0) .0) 0 && zerosFrom ts (i + 1) (8 - (i + 1))

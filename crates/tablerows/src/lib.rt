@@ -1,22 +1,19 @@
 // One row of a lent table: read out of the table's bytes, and tested job by job.
 //
 // specs/Table.antt says what a table's rows and fields are and what the tests of one row ask, specs/Cut.antt how a row is
-// held, and specs/Checks.antt what the functions promise besides; they serve other crates of the planner, and their callers
-// meet what they require. Nothing is assumed.
+// held. These functions serve other crates of the planner, and their callers meet what they require. Nothing is assumed.
 use model::Job;
 use model::PagesPerHour;
-use model::Profile;
 use model::Seconds;
 ghost use mathlib.Core.Path.{_≡_};
 ghost use Prim.Native.Nat.{_+_, _*_, _-_, _/_, _^_, _≤_, _<_};
 ghost use Rattle.codec.specs.Packing.{unpack};
 ghost use Rattle.codec.specs.Rows.{tableWidths};
 ghost use Rattle.model.specs.Model.{cost, rate, jobLoss};
-ghost use Rattle.model.specs.Valid.{ValidJob, Valid};
+ghost use Rattle.model.specs.Valid.{ValidJob};
 ghost use Rattle.walk.specs.Steps.{NeedFits};
 ghost use Rattle.tablerows.specs.Table.{rowsIn, startAt, allows, follows};
-ghost use Rattle.tablerows.specs.Cut.{rowOf, rowAt};
-ghost use Rattle.tablerows.specs.Checks.{Fastest, zerosFrom};
+ghost use Rattle.tablerows.specs.Cut.{rowOf, rowAt, zerosFrom};
 
 // A table row's start and its eight periods.
 pub struct TableRow {
@@ -76,23 +73,6 @@ pub fn cut_row(high: u64, low: u64) -> TableRow
     }
 }
 
-// The rates of the jobs at their shortest periods.
-pub fn fastest_rates(p: Profile) -> [PagesPerHour; 8]
-    requires { ⌜ Valid p ⌝ }
-    ensures { λ r. ⌜ Fastest p (p .n) r ⌝ }
-{
-    let n = p.n as usize;
-    let mut rates = [PagesPerHour(0); 8];
-    let mut k: usize = 0;
-    while k < n {
-        let j = p.jobs[k];
-        let rate = rate_at(j, j.lo);
-        rates[k] = rate;
-        k += 1;
-    }
-    rates
-}
-
 // Whether a job allows a period after the period `before`.
 pub fn allowed(j: Job, before: Seconds, t: Seconds) -> bool
     requires { ⌜ 1 ≤ before .0 ⌝ }
@@ -121,14 +101,6 @@ pub fn job_loss(j: Job, fastest: PagesPerHour, t: Seconds) -> u64
     ensures { λ r. ⌜ r ≡ jobLoss j t ⌝ }
 {
     walk::job_loss(j.stiffness, fastest, run_pages(j), t)
-}
-
-// The rate of a job at a period, rounded down.
-fn rate_at(j: Job, t: Seconds) -> PagesPerHour
-    requires { ⌜ ValidJob j × (1 ≤ t .0) ⌝ }
-    ensures { λ r. ⌜ r ≡ rate j t ⌝ }
-{
-    PagesPerHour(3600 * run_pages(j) / t.0)
 }
 
 // The pages of one run.

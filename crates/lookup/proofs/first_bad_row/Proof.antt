@@ -1,13 +1,13 @@
 -- `lookup::first_bad_row` meets its contract: before each turn the verdict is that of the rows, and of a row's places, still to come.
 -- Assumes nothing.
-use Prim.Native.Nat.{_-_}
-use mathlib.Core.Path.{_≡_, _∙_, sym}
+use Prim.Native.Nat.{_-_, zero-le}
+use mathlib.Core.Path.{_≡_, _∙_, sym, ap}
 use mathlib.Core.Bool.{true}
 use native.Mathlib.Omega.{arith}
 use lib.ListN.{getD}
 use borrow.Author.Needs.{needs}
 use borrow.Author.Tests.{not-true, not-false}
-use Rattle.model.specs.Model.{seconds, noJob}
+use Rattle.model.specs.Model.{seconds, pagesPerHour, noJob}
 use Rattle.model.specs.Valid.{Valid}
 use Rattle.model.proofs.Validity.{job-valid-at}
 use Rattle.tablerows.specs.Table.{allows}
@@ -17,16 +17,16 @@ use Rattle.lookup.proofs.first_bad_row.Statement.{statement}
 use Rattle.lookup.proofs.first_bad_row.Tie as tie
 
 abbrev Inv-loop : tie.InvT-loop
-Inv-loop table p n fastest rows start-before loss-before k start periods before₀ written₀ lost₀ i₀ before written lost i = PlacesLeft p periods before written lost i
+Inv-loop table p n rates rows start-before loss-before k start periods before₀ written₀ lost₀ i₀ before written lost i = PlacesLeft p periods before written lost i
 
 abbrev μ-loop : tie.MeasureT-loop
-μ-loop table p n fastest rows start-before loss-before k start periods before₀ written₀ lost₀ i₀ before written lost i = n - i
+μ-loop table p n rates rows start-before loss-before k start periods before₀ written₀ lost₀ i₀ before written lost i = n - i
 
 abbrev Inv-rows : tie.InvT-rows
-Inv-rows table p n fastest rows start-before₀ loss-before₀ k₀ start-before loss-before k = RowsLeft p table rows start-before loss-before k
+Inv-rows table p n rates rows start-before₀ loss-before₀ k₀ start-before loss-before k = RowsLeft p table rows start-before loss-before k
 
 abbrev μ-rows : tie.MeasureT-rows
-μ-rows table p n fastest rows start-before₀ loss-before₀ k₀ start-before loss-before k = rows - k
+μ-rows table p n rates rows start-before₀ loss-before₀ k₀ start-before loss-before k = rows - k
 
 valid : (c : tie.At-loop Inv-loop μ-loop Inv-rows μ-rows) → Valid (c .before .before .before .before .before .before .before .before .args .t1)
 valid c = c .before .before .before .before .before .before .before .before .pre
@@ -45,8 +45,8 @@ scanned c =
 cast-n : tie.Need-cast-n Inv-loop μ-loop Inv-rows μ-rows
 cast-n c = search needs
 
-fastest-rates-requires : tie.Need-fastest-rates-requires Inv-loop μ-loop Inv-rows μ-rows
-fastest-rates-requires c κs = search needs
+rates-of-requires : tie.Need-rates-of-requires Inv-loop μ-loop Inv-rows μ-rows
+rates-of-requires c κs = search needs
 
 rows-holds : tie.Need-rows-holds Inv-loop μ-loop Inv-rows μ-rows
 rows-holds c = first-rows _ _ _ _ _
@@ -75,29 +75,29 @@ allowed-requires c κs = c .before .before .before .loop .inv .from
 add-bad : tie.Need-add-bad Inv-loop μ-loop Inv-rows μ-rows
 add-bad c = search needs
 
-mul-rate : tie.Need-mul-rate Inv-loop μ-loop Inv-rows μ-rows
-mul-rate c = search needs
+mul-fastest : tie.Need-mul-fastest Inv-loop μ-loop Inv-rows μ-rows
+mul-fastest c = search needs
 
-array-copy-out-rate : tie.Need-array-copy-out-rate Inv-loop μ-loop Inv-rows μ-rows
-array-copy-out-rate c = omega (arith, valid (c .before .before .before .before .before) .n-to)
+array-read-fastest : tie.Need-array-read-fastest Inv-loop μ-loop Inv-rows μ-rows
+array-read-fastest c = omega (arith, valid (c .before .before .before .before .before) .n-to)
 
 written-with-requires : tie.Need-written-with-requires Inv-loop μ-loop Inv-rows μ-rows
 written-with-requires c κs =
-    let i = c .before .before .before .before .before in
+    let i = c .before .before .before .before in
     let l = i .before in
     let j = job-valid-at _ (l .loop .i) (valid l) (i .loop-test .taken) in
-    (j, pages-fit (valid l) (l .loop .inv), omega (arith, allowed _ (l .loop .before) _ (passed (c .before)) .below, j .hi-to))
+    (j, pages-fit (valid l) (l .loop .inv), omega (arith, allowed _ (l .loop .before) _ (passed c) .below, j .hi-to))
 
 job-loss-requires : tie.Need-job-loss-requires Inv-loop μ-loop Inv-rows μ-rows
 job-loss-requires c κs =
-    let e = c .before .before in
+    let e = c .before in
     let i = e .before .before .before .before in
     let l = i .before in
-    (job-valid-at _ (l .loop .i) (valid l) (i .loop-test .taken), allowed _ (l .loop .before) _ (passed e) .above, l .before .before .before .before .before .before .fastest-rates .ensures .at (l .loop .i) (i .loop-test .taken))
+    (job-valid-at _ (l .loop .i) (valid l) (i .loop-test .taken), allowed _ (l .loop .before) _ (passed e) .above, ap pagesPerHour (l .before .before .before .before .before .before .rates-of .ensures .fastest (l .loop .i) zero-le (i .loop-test .taken)))
 
 add-lost : tie.Need-add-lost Inv-loop μ-loop Inv-rows μ-rows
 add-lost c =
-    let e = c .before .before .before in
+    let e = c .before .before in
     let i = e .before .before .before .before in
     omega (arith, loss-fits (valid (i .before)) (i .before .loop .inv) (i .loop-test .taken) (passed e), c .job-loss .ensures)
 
@@ -109,7 +109,7 @@ loop-less c = search needs
 
 loop-again : tie.Need-loop-again Inv-loop μ-loop Inv-rows μ-rows
 loop-again c =
-    let e = c .before .before .before in
+    let e = c .before .before in
     let i = e .before .before .before .before in
     rw (c .before .written-with .ensures, c .job-loss .ensures) (next-place (valid (i .before)) (i .before .loop .inv) (i .loop-test .taken) (passed e))
 
@@ -183,7 +183,7 @@ first-bad-row-spec =
     Inv-rows
     μ-rows
     cast-n
-    fastest-rates-requires
+    rates-of-requires
     rows-holds
     row-at-requires
     loop-holds
@@ -193,8 +193,8 @@ first-bad-row-spec =
     array-copy-out-t
     allowed-requires
     add-bad
-    mul-rate
-    array-copy-out-rate
+    mul-fastest
+    array-read-fastest
     written-with-requires
     job-loss-requires
     add-lost

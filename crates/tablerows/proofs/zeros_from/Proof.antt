@@ -2,7 +2,7 @@
 -- Assumes nothing.
 use Prim.Native.Nat.{_-_}
 use mathlib.Core.Path.{_≡_, refl, _∙_, sym}
-use Rattle.tablerows.specs.Checks.{zerosFrom}
+use Rattle.tablerows.specs.Cut.{zerosFrom}
 use Rattle.tablerows.proofs.Zeros.{no-zeros, one-zero, not-zero}
 use borrow.Author.Needs.{needs}
 use Rattle.tablerows.proofs.zeros_from.Statement.{statement}
