@@ -1,11 +1,14 @@
-// Runs the numbers of document 01, and a bad input for each refusal, and prints what comes out. The file stdout beside src/ is what must come out.
+// Runs the numbers of document 01, and a bad input for each refusal, and prints what comes out. The file stdout beside src/
+// is what must come out.
 use libc::STDOUT_FILENO;
+use planner::Counted;
 use planner::Job;
 use planner::PagesPerHour;
 use planner::Profile;
 use planner::Seconds;
 use planner::Verdict;
 ghost use mathlib.Core.Path.{_≡_};
+ghost use Prim.Native.Nat.{_<_};
 ghost use lib.ListN.{length};
 
 fn main() {
@@ -20,59 +23,39 @@ fn main() {
     lookups();
 }
 
-// Profile A's 25 bytes, read and written back.
+// Profile A's 25 bytes, read and written back: into a longer room, and into one that is a byte too short.
 fn both_ways() {
     say(b"A\n");
-    let r = planner::read_profile(&profile_a());
+    let r = planner::read_profile(&bytes_a());
     let v = r.verdict;
     show(v);
     let p = r.profile;
     show_profile(p);
-    show_written(p);
-    show_room(p);
-}
-
-// A profile's bytes at the front of a longer buffer.
-fn show_written(p: Profile) {
-    let mut out = [0xEEu8; 28];
-    let w = planner::write_profile(p, &mut out);
-    let v = w.verdict;
-    show(v);
-    number(w.count);
-    show_bytes(&out);
-    say(b"\n");
-}
-
-// A profile's bytes in a buffer that is a byte too short for A.
-fn show_room(p: Profile) {
-    let mut out = [0xEEu8; 24];
-    let w = planner::write_profile(p, &mut out);
-    let v = w.verdict;
-    show(v);
-    show_bytes(&out);
-    say(b"\n");
+    let mut longer = [0xEEu8; 28];
+    show_written(p, &mut longer);
+    let mut shorter = [0xEEu8; 24];
+    show_written(p, &mut shorter);
 }
 
 // A's first row, P8, P9 and the case with no pages.
 fn needs() {
     say(b"needs\n");
-    let r = planner::read_profile(&profile_a());
-    let a = r.profile;
-    show_score(a, three(25, 50, 100));
-    show_score(a, three(20, 60, 60));
-    show_score(one(job(7, 7, 1)), three(7, 0, 0));
-    show_score(two(job(7, 7, 1)), three(7, 7, 0));
-    show_score(one(job(3600, 3600, 0)), three(3600, 0, 0));
+    let a = profile_a();
+    show_score(a, 25, 50, 100);
+    show_score(a, 20, 60, 60);
+    show_score(sevens(1), 7, 0, 0);
+    show_score(sevens(2), 7, 7, 0);
+    show_score(one(3600, 3600, 0), 3600, 0, 0);
 }
 
 // 1 to 7, by the bytes. In the last, 5, 6 and 7 hold at once, and 5 comes first.
 fn bad_bytes() {
     say(b"bad bytes\n");
-    show_front(0);
+    show_read(b"");
     show_changed(0, 0x23);
     show_changed(0, 0x10);
     show_changed(0, 0x19);
-    show_front(24);
+    show_part(&bytes_a(), 24);
     show_changed(3, 0);
     show_changed(24, 0);
     show_changed(24, 0x11);
@@ -83,91 +66,72 @@ fn bad_bytes() {
 // 3, 5, 6 and 8, by values. In the last but one, 5, 6 and 8 hold at once, and 5 comes first; in the last, all beyond n.
 fn bad_values() {
     say(b"bad values\n");
-    show_values(counted(0, job(7, 7, 1)));
-    show_values(counted(9, job(7, 7, 1)));
-    show_values(counted(8, job(7, 7, 1)));
-    show_values(one(job(0, 7, 1)));
-    show_values(one(job(8, 7, 1)));
-    show_values(one(job(7, 3601, 1)));
-    show_values(one(weighed(0)));
-    show_values(one(weighed(33)));
-    show_values(one(job(7, 7, 32768)));
-    show_values(one(all_bad()));
-    let mut p = one(job(7, 7, 1));
-    let bad = all_bad();
-    p.jobs[1] = bad;
-    show_values(p);
+    show_values(sevens(0));
+    show_values(sevens(9));
+    show_values(sevens(8));
+    show_values(one(0, 7, 1));
+    show_values(one(8, 7, 1));
+    show_values(one(7, 3601, 1));
+    show_values(weighed(0));
+    show_values(weighed(33));
+    show_values(one(7, 7, 32768));
+    show_values(counted(1, all_bad()));
+    show_values(bad_beyond());
 }
 
 // 13, by the first period outside its interval or no multiple of the one before.
 fn bad_periods() {
     say(b"bad periods\n");
-    let r = planner::read_profile(&profile_a());
-    let a = r.profile;
-    show_score(a, three(19, 60, 60));
-    show_score(a, three(25, 75, 75));
-    show_score(a, three(25, 51, 100));
-    show_score(a, three(25, 50, 0));
-    show_score(one(job(0, 7, 1)), three(7, 0, 0));
+    let a = profile_a();
+    show_score(a, 19, 60, 60);
+    show_score(a, 25, 75, 75);
+    show_score(a, 25, 51, 100);
+    show_score(a, 25, 50, 0);
+    show_score(one(0, 7, 1), 7, 0, 0);
 }
 
 // P1 to P4, P6 to P8, P10 and the case with no pages.
 fn choices() {
     say(b"choices\n");
-    let r = planner::read_profile(&profile_a());
-    let a = r.profile;
+    let a = profile_a();
     show_choice(a, 4319);
     show_choice(a, 4320);
     show_choice(a, 5399);
     show_choice(a, 5400);
-    show_choice(
-        spans(job(1, 1, 1), job(2, 6, 1), job(35, 35, 1)),
-        4294967295,
-    );
-    show_choice(
-        spans(job(1, 1, 1), job(2, 4, 1), job(35, 35, 1)),
-        4294967295,
-    );
-    show_choice(one(job(7, 7, 1)), 514);
-    show_choice(one(job(7, 7, 1)), 515);
-    show_choice(one(job(1801, 3600, 1)), 1);
-    show_choice(one(job(1801, 3600, 1)), 4294967295);
-    show_choice(one(job(3600, 3600, 0)), 0);
+    show_choice(spans(1, 1, 2, 6, 35, 35), 4294967295);
+    show_choice(spans(1, 1, 2, 4, 35, 35), 4294967295);
+    show_choice(sevens(1), 514);
+    show_choice(sevens(1), 515);
+    show_choice(one(1801, 3600, 1), 1);
+    show_choice(one(1801, 3600, 1), 4294967295);
+    show_choice(one(3600, 3600, 0), 0);
 }
 
 // P5, an example of five zones, P6 and P7's profiles, and A with no room.
 fn zones() {
     say(b"zones\n");
-    let r = planner::read_profile(&profile_a());
-    let a = r.profile;
-    show_zones(a);
-    show_zones(spans(job(6, 10, 1), job(11, 22, 1), job(19, 40, 1)));
-    show_zones(spans(job(1, 1, 1), job(2, 6, 1), job(35, 35, 1)));
-    show_zones(spans(job(1, 1, 1), job(2, 4, 1), job(35, 35, 1)));
+    show_zones(profile_a());
+    show_zones(spans(6, 10, 11, 22, 19, 40));
+    show_zones(spans(1, 1, 2, 6, 35, 35));
+    show_zones(spans(1, 1, 2, 4, 35, 35));
     let mut none = [0xEEu8; 15];
-    let c = planner::list_zones(a, &mut none);
-    let v = c.verdict;
-    show(v);
-    show_bytes(&none);
-    say(b"\n");
+    show_zones_in(profile_a(), &mut none);
 }
 
 // A's table in room for nine rows and for eight, P10's, and one that has no row.
 fn tables() {
     say(b"tables\n");
-    let r = planner::read_profile(&profile_a());
-    let a = r.profile;
-    show_table(a);
-    show_table_room(a);
-    show_table(one(job(1801, 3600, 1)));
-    show_table(spans(job(1, 1, 1), job(2, 4, 1), job(35, 35, 1)));
+    show_table(profile_a());
+    let mut eight = [0xEEu8; 128];
+    show_table_in(profile_a(), &mut eight);
+    show_table(one(1801, 3600, 1));
+    show_table(spans(1, 1, 2, 4, 35, 35));
 }
 
 // P1 to P4 through A's table.
 fn lookups() {
     say(b"lookups\n");
-    let r = planner::read_profile(&profile_a());
-    let a = r.profile;
+    let a = profile_a();
     let mut table = [0u8; 144];
     planner::build_table(a, &mut table);
     show_lookup(a, &table, 4319);
@@ -176,8 +140,13 @@ fn lookups() {
     show_lookup(a, &table, 5400);
 }
 
+fn profile_a() -> Profile {
+    let r = planner::read_profile(&bytes_a());
+    r.profile
+}
+
 // The length is said so that the array can be lent as a slice.
-fn profile_a() -> [u8; 25]
+fn bytes_a() -> [u8; 25]
     ensures { λ r. ⌜ 25 ≡ length r ⌝ }
 {
     [
@@ -209,6 +178,46 @@ fn profile_a() -> [u8; 25]
     ]
 }
 
+// So many jobs that run every 7 seconds: P8's profile is one of them, P9's two.
+fn sevens(n: u32) -> Profile {
+    counted(n, job(7, 7, 1))
+}
+
+fn one(lo: u32, hi: u32, data: u32) -> Profile {
+    counted(1, job(lo, hi, data))
+}
+
+// Three jobs, by the ends of their intervals.
+fn spans(i: u32, i_to: u32, j: u32, j_to: u32, k: u32, k_to: u32) -> Profile {
+    let mut p = counted(3, job(i, i_to, 1));
+    let second = job(j, j_to, 1);
+    let third = job(k, k_to, 1);
+    p.jobs[1] = second;
+    p.jobs[2] = third;
+    p
+}
+
+fn weighed(stiffness: u32) -> Profile {
+    counted(
+        1,
+        Job {
+            lo: Seconds(7),
+            hi: Seconds(7),
+            data: 1,
+            metadata: 0,
+            stiffness,
+        },
+    )
+}
+
+// One sound job, and a bad one beyond it.
+fn bad_beyond() -> Profile {
+    let mut p = sevens(1);
+    let bad = all_bad();
+    p.jobs[1] = bad;
+    p
+}
+
 fn job(lo: u32, hi: u32, data: u32) -> Job {
     Job {
         lo: Seconds(lo),
@@ -216,16 +225,6 @@ fn job(lo: u32, hi: u32, data: u32) -> Job {
         data,
         metadata: 0,
         stiffness: 1,
-    }
-}
-
-fn weighed(stiffness: u32) -> Job {
-    Job {
-        lo: Seconds(7),
-        hi: Seconds(7),
-        data: 1,
-        metadata: 0,
-        stiffness,
     }
 }
 
@@ -237,22 +236,6 @@ fn all_bad() -> Job {
         metadata: 4294967295,
         stiffness: 0,
     }
-}
-
-fn one(j: Job) -> Profile {
-    counted(1, j)
-}
-
-// Three jobs.
-fn spans(i: Job, j: Job, k: Job) -> Profile {
-    let mut p = counted(3, i);
-    p.jobs[1] = j;
-    p.jobs[2] = k;
-    p
-}
-
-fn two(j: Job) -> Profile {
-    counted(2, j)
 }
 
 fn counted(n: u32, j: Job) -> Profile {
@@ -267,11 +250,7 @@ fn three(t: u32, u: u32, v: u32) -> [Seconds; 8] {
     ts
 }
 
-// Reads the first n bytes of A.
-fn show_front(n: usize) {
-    show_part(&profile_a(), n);
-}
-
+// Reads the first n of some bytes.
 fn show_part(bytes: &[u8], n: usize) {
     if n <= bytes.len() {
         show_read(&bytes[..n]);
@@ -285,16 +264,12 @@ fn show_read(bytes: &[u8]) {
 }
 
 // Reads A with one byte changed.
-fn show_changed(at: usize, b: u8) {
-    let mut a = profile_a();
-    if at < 25 {
-        a[at] = b;
-    }
-    show_whole(&a);
-}
-
-fn show_whole(bytes: &[u8; 25]) {
-    show_read(bytes);
+fn show_changed(at: usize, b: u8)
+    requires { ⌜ at < 25 ⌝ }
+{
+    let mut a = bytes_a();
+    a[at] = b;
+    show_read(&a);
 }
 
 // Whether a profile's values are taken, in room enough for any.
@@ -305,8 +280,8 @@ fn show_values(p: Profile) {
     show(v);
 }
 
-fn show_score(p: Profile, ts: [Seconds; 8]) {
-    let r = planner::score(p, ts);
+fn show_score(p: Profile, t: u32, u: u32, w: u32) {
+    let r = planner::score(p, three(t, u, w));
     let v = r.verdict;
     show(v);
     number(r.need.0 as u64);
@@ -337,44 +312,49 @@ fn show_period(t: Seconds) {
     io::print_decimal(STDOUT_FILENO, t.0 as u64);
 }
 
+// A profile's bytes, in a lent room.
+fn show_written(p: Profile, room: &mut [u8]) {
+    let w = planner::write_profile(p, room);
+    show_filled(w, room);
+}
+
 // The zones, in a room for five and a byte more.
 fn show_zones(p: Profile) {
-    let mut out = [0xEEu8; 81];
-    let c = planner::list_zones(p, &mut out);
-    let v = c.verdict;
-    show(v);
-    number(c.count);
-    show_bytes(&out);
-    say(b"\n");
+    let mut room = [0xEEu8; 81];
+    show_zones_in(p, &mut room);
+}
+
+fn show_zones_in(p: Profile, room: &mut [u8]) {
+    let c = planner::list_zones(p, room);
+    show_filled(c, room);
 }
 
 // The budget table, in a room for nine rows and a byte more.
 fn show_table(p: Profile) {
-    let mut out = [0xEEu8; 145];
-    let c = planner::build_table(p, &mut out);
-    let v = c.verdict;
-    show(v);
-    number(c.count);
-    show_bytes(&out);
-    say(b"\n");
+    let mut room = [0xEEu8; 145];
+    show_table_in(p, &mut room);
 }
 
-// The same in a room for eight.
-fn show_table_room(p: Profile) {
-    let mut out = [0xEEu8; 128];
-    let c = planner::build_table(p, &mut out);
+fn show_table_in(p: Profile, room: &mut [u8]) {
+    let c = planner::build_table(p, room);
+    show_filled(c, room);
+}
+
+// What was told of a lent room, and its bytes. Beside 11 no count is shown: its detail is what would be needed.
+fn show_filled(c: Counted, room: &[u8]) {
     let v = c.verdict;
     show(v);
-    show_bytes(&out);
-    say(b"\n");
+    if planner::number(v) != 11 {
+        number(c.count);
+    }
+    show_line(room);
 }
 
 // What is told of a budget, and the row's bytes.
 fn show_lookup(p: Profile, table: &[u8; 144], budget: u32) {
     let v = planner::judge_lookup(p, table, PagesPerHour(budget));
     show(v);
-    show_bytes(planner::lookup(p, table, PagesPerHour(budget)));
-    say(b"\n");
+    show_line(planner::lookup(p, table, PagesPerHour(budget)));
 }
 
 fn show_profile(p: Profile) {
@@ -393,6 +373,11 @@ fn show_job(j: Job) {
     field(j.data);
     field(j.metadata);
     number(j.stiffness as u64);
+}
+
+fn show_line(bytes: &[u8]) {
+    show_bytes(bytes);
+    say(b"\n");
 }
 
 fn show_bytes(bytes: &[u8]) {
