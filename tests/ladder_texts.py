@@ -4,30 +4,21 @@ OUT/NAME.out, the text that the ladder program must print for them, worked out f
 
 Where a text is stored beside its input the two must agree. Those in tests/ladder.d were written by hand, from the rules' text
 for A, their numbers P6 to P10 and their table of refusals; that of 4,096 rows is too long to store.
-
-An input is bytes in hexadecimal. # begins a comment, and * N after the bytes of a line has them N times.
 """
 import pathlib
 import sys
 
+from hexadecimal import read_hex
 from rules import listing
 
 TOP = pathlib.Path(__file__).parent.parent
-
-
-def read_hex(text):
-    data = b""
-    for line in text.splitlines():
-        digits, _, times = line.partition("#")[0].partition("*")
-        data += bytes.fromhex(digits) * int(times or 1)
-    return data
 
 
 def main():
     out = pathlib.Path(sys.argv[1])
     for folder, stored in ((TOP / "tests/ladder.d", ".out"), (TOP / "profiles", ".listing")):
         for path in sorted(folder.glob("*.hex")):
-            data = read_hex(path.read_text())
+            data = read_hex(path)
             text = listing(data).encode()
             right = path.with_suffix(stored)
             if right.exists() and right.read_bytes() != text:
