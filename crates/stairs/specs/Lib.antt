@@ -1,3 +1,2 @@
 pub mod Stairs
 pub mod Rows
-pub mod Next

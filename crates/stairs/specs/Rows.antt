@@ -7,12 +7,8 @@ use Prim.Native.Nat.{ℕ, zero, suc, _+_, _*_, _-_, _/_, _%_, _^_, _≤_, _<_}
 use lib.ListN.{length, getD}
 use Rattle.model.specs.declared.Seconds.{Seconds}
 use Rattle.model.specs.declared.PagesPerHour.{PagesPerHour}
-use Rattle.model.specs.declared.Job.{Job}
-use Rattle.model.specs.Model.{seconds}
-use Rattle.walk.specs.Walk.{start, walk}
-use Rattle.walk.specs.Arrays.{Held}
-use Rattle.walk.specs.Steps.{needAt, periodsIn, Ready, ChangesNothing, Walked}
-use Rattle.stairs.specs.Stairs.{Stair, stair, Stairs, noStairs, atMost, enter}
+use Rattle.walk.specs.Steps.{needAt, periodsIn, ChangesNothing}
+use Rattle.stairs.specs.Stairs.{Stair, stair, Stairs, atMost, enter}
 
 -- The greatest number of rows.
 abbrev pub most : ℕ
@@ -163,20 +159,3 @@ pub record Enters (n : ℕ) (b : PagesPerHour) (t : Seconds) (written lost : ℕ
 -- The walk from a node of i jobs on would leave the staircase; `floor` is the node's loss floor.
 abbrev pub EntersNothing : List ℕ → List ℕ → ℕ → ℕ → PagesPerHour → Seconds → ℕ → ℕ → List ℕ → List ℕ → Type 0
 EntersNothing spans rates i n b t written floor flat marks = ChangesNothing (enter most (b .0)) spans rates i n t written floor (stairsOf n flat marks)
-
--- What that walk leaves: the periods before place i, and of the staircase what it makes of it.
-pub record Climbs (spans runs rates weights : List ℕ) (i n : ℕ) (b : PagesPerHour) (t : Seconds) (written lost : ℕ) (ps ps′ flat flat′ marks marks′ : List ℕ) : Type 0 where
-  pub stands : Standing n ps′ flat′ marks′
-  pub walked : Walked (enter most (b .0)) spans runs rates weights i n t written lost ps ps′ (stairsOf n flat marks) (stairsOf n flat′ marks′)
-
--- The arrays hold some n jobs, and nothing stands before them.
-abbrev pub Begins : List ℕ → List ℕ → List ℕ → List ℕ → ℕ → Type 0
-Begins spans runs rates weights n = Ready spans runs rates weights 0 n (seconds 1) 0 0
-
--- The first r rows are those that the whole walk makes of none, each with n periods.
-pub record Collects (spans runs rates weights : List ℕ) (n : ℕ) (b : PagesPerHour) (r : ℕ) (flat : List ℕ) : Type 0 where
-  pub few : r ≤ most
-  pub size : length flat ≡ 768
-  pub rises : Rises r flat
-  pub legible : (a : ℕ) → a < r → Legible n flat a
-  pub are : (js : List Job) → Held spans runs rates weights 0 n js → stairsIn n r flat ≡ walk (enter most (b .0)) js start noStairs .rows

@@ -13,9 +13,9 @@ use Rattle.model.specs.Model.{jobsOf}
 use Rattle.model.specs.Valid.{ValidJobs, Valid}
 use Rattle.stairs.specs.Stairs.{Stair, stair}
 use Rattle.stairs.specs.Rows.{needIn, stairsIn}
-use Rattle.stairs.specs.Next.{Answer, NextAnswers, lastNeed, AnswersUnder, AnswersBelow}
+use Rattle.climb.specs.Next.{Answer, NextAnswers, lastNeed, AnswersUnder, AnswersBelow}
 use Rattle.stairs.proofs.Rows.{rows-length}
-use Rattle.stairs.proofs.Answers.{need-last, limit-falls}
+use Rattle.climb.proofs.Answers.{need-last, limit-falls}
 use Rattle.table.specs.Descent.{rowsBelow}
 use Rattle.table.proofs.Descent.{rows-step, rows-none}
 

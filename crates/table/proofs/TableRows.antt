@@ -21,8 +21,8 @@ use Rattle.codec.specs.Rows.{tableWidths, tableRow}
 use Rattle.codec.proofs.Rows.{row-of-words, row-in, length-row}
 use Rattle.stairs.specs.Stairs.{Stair, stair}
 use Rattle.stairs.specs.Rows.{highWord, lowWord, needIn, lowIn, stairsIn}
-use Rattle.stairs.specs.Next.{Answer, lastNeed, Words, AnswersBelow}
-use Rattle.stairs.proofs.Answers.{answer-at, need-at, answer-below}
+use Rattle.climb.specs.Next.{Answer, lastNeed, Words, AnswersBelow}
+use Rattle.climb.proofs.Answers.{answer-at, need-at, answer-below}
 use Rattle.table.specs.Table.{tableBytes}
 use Rattle.table.specs.Descent.{rowsBelow, allBudgets, withBatch}
 use Rattle.table.proofs.Descent.{rows-zero}

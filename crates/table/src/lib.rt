@@ -65,7 +65,7 @@ fn count_rows(p: Profile) -> u64
     let mut count: u64 = 0;
     let mut limit = ALL_BUDGETS;
     while 0 < limit {
-        let found = stairs::answers_below(p, limit, &mut rows);
+        let found = climb::answers_below(p, limit, &mut rows);
         if found == 0 {
             return count;
         }
@@ -84,7 +84,7 @@ fn write_rows(p: Profile, count: usize, out: &mut [u8])
     let mut left = count;
     let mut limit = ALL_BUDGETS;
     while 0 < left {
-        let found = stairs::answers_below(p, limit, &mut rows);
+        let found = climb::answers_below(p, limit, &mut rows);
         write_batch(&rows, found, left, out);
         left -= found;
         limit = last_need(&rows, found);

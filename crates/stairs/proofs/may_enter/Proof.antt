@@ -4,7 +4,7 @@ use mathlib.Core.Path.{_≡_, ap}
 use native.Mathlib.Omega.{arith}
 use Rattle.model.specs.declared.PagesPerHour.{PagesPerHour}
 use Rattle.walk.proofs.Cuts.{ready-need, ready-ends, need-floor-to}
-use Rattle.stairs.proofs.Climbing.{over-enters-nothing, covered-enters-nothing, unreached-enters-nothing}
+use Rattle.stairs.proofs.Cuts.{over-enters-nothing, covered-enters-nothing, unreached-enters-nothing}
 use borrow.Author.Needs.{needs}
 use Rattle.stairs.proofs.may_enter.Statement.{statement}
 use Rattle.stairs.proofs.may_enter.Tie as tie

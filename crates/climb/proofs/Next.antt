@@ -14,10 +14,10 @@ use Rattle.model.specs.Model.{pagesPerHour, Permitted, need, loss, NotAfter, No
 use Rattle.model.specs.Valid.{ValidJobs}
 use Rattle.model.proofs.Bounds.{mostLoss, job-loss-bound}
 use Rattle.walk.specs.Walk.{start, walk}
 use Rattle.stairs.specs.Stairs.{Stair, Stairs, noBound, noStairs, enter}
-use Rattle.stairs.specs.Next.{Answer, NextAnswers, AnswersUnder}
-use Rattle.stairs.proofs.Order.{Staircase}
-use Rattle.stairs.proofs.Fold.{Plan, Served, still-served, Collected, walk-collects}
+use Rattle.climb.specs.Next.{Answer, NextAnswers, AnswersUnder}
+use Rattle.climb.proofs.Order.{Staircase}
+use Rattle.climb.proofs.Fold.{Plan, Served, still-served, Collected, walk-collects}
 
 less-loss : {js : List Job} (ts us : List Seconds) → loss js ts < loss js us → NoWorse js ts us
 less-loss ts us h = record { loss-first = omega arith; need-next = λ e. absurd (omega arith); list-last = λ e d. absurd (omega arith) }

@@ -7,8 +7,8 @@ use native.Mathlib.Omega.{arith}
 use lib.ListN.{length, getD, take}
 use lib.Seq.{take-length}
 use Rattle.model.specs.declared.Job.{Job}
 use Rattle.stairs.specs.Stairs.{Stair}
-use Rattle.stairs.specs.Next.{Answer, NextAnswers, lastNeed}
+use Rattle.climb.specs.Next.{Answer, NextAnswers, lastNeed}
 
 module _ (d : Stair) where
   pub answer-at : {js : List Job} (limit : ℕ) (rows : List Stair) (k : ℕ) → NextAnswers js limit rows → k < length rows → Answer js (lastNeed limit (take k rows)) (getD rows k d)

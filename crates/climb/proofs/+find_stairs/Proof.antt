@@ -1,29 +1,29 @@
--- `stairs::find_stairs` meets its contract: before each turn of its loop, the walk from the present multiple up, begun with the staircase that stands, ends as the whole walk does.
+-- `climb::find_stairs` meets its contract: before each turn of its loop, the walk from the present multiple up, begun with the staircase that stands, ends as the whole walk does.
 -- Assumes nothing.
 use Prim.Native.Nat.{ℕ, _<_, _+_, _-_}
 use native.Mathlib.Nat.{div-le-self, div-mul-le-self}
 use lib.ListN.{getD}
 use Rattle.walk.proofs.Cuts.{ready-more, ready-shortest, ready-longest, ready-own, ready-need}
 use Rattle.walk.proofs.Climbing.{Up, Turn, up-leaf, up-starts, up-done, up-loss-fits, up-later, up-written, up-first, up-cut, up-lost, up-next, up-floor, up-left, up-pass, up-skip, up-turn}
 use Rattle.stairs.specs.Stairs.{enter}
 use Rattle.stairs.specs.Rows.{most, stairsOf, Standing}
 use Rattle.stairs.proofs.Updates.{keeps-bound}
-use Rattle.stairs.proofs.Ordered.{Ordered, enter-absorbs}
-use Rattle.stairs.proofs.Climbing.{standing-ordered, period-set}
+use Rattle.climb.proofs.Ordered.{Ordered, enter-absorbs}
+use Rattle.climb.proofs.Climbing.{standing-ordered, period-set}
 use borrow.Author.Needs.{needs}
 use native.Mathlib.Omega.{arith}
 use borrow.Fn.Kinds.{In}
 use borrow.Fn.PlainCycle.{Measures, is, falls, and}
-use Rattle.stairs.proofs.find_stairs.Reads as find-stairs
-use Rattle.stairs.proofs.find_stairs.Kinds as find-stairs-kinds
-use Rattle.stairs.proofs.+find_stairs.Lts-find_stairs as find-stairs-lts
+use Rattle.climb.proofs.find_stairs.Reads as find-stairs
+use Rattle.climb.proofs.find_stairs.Kinds as find-stairs-kinds
+use Rattle.climb.proofs.+find_stairs.Lts-find_stairs as find-stairs-lts
 use Rattle.stairs.proofs.enter_plan.Reads as enter-plan-reads
 use Rattle.stairs.proofs.may_enter.Reads as may-enter-reads
 use Rattle.walk.proofs.job_loss.Reads as job-loss-reads
 use Rattle.walk.proofs.loss_floor.Reads as loss-floor-reads
 use Rattle.walk.proofs.repeats.Reads as repeats-reads
-use Rattle.stairs.proofs.+find_stairs.{statement}
-use Rattle.stairs.proofs.+find_stairs.Tie.{close}
+use Rattle.climb.proofs.+find_stairs.{statement}
+use Rattle.climb.proofs.+find_stairs.Tie.{close}
 
 abbrev measure : Measures 7 find-stairs-kinds.ps ℕ
 measure κs a = a .1 .1 .1 .1 .1 .0 - a .1 .1 .1 .1 .0

@@ -12,9 +12,9 @@ use native.Mathlib.Nat.{le-refl, le-trans}
 use lib.ListN.{length, getD, length-take}
 use Rattle.model.specs.declared.Seconds.{Seconds}
 use Rattle.walk.proofs.Pageless.{Absorbs}
 use Rattle.stairs.specs.Stairs.{Stair, stair, Stairs, covered, losingLess, among, atMost, enter}
 use Rattle.stairs.proofs.Updates.{Covering, covering, covers, enter-over, enter-bound, enter-covered, enter-new, at-most-all, at-most-cut}
-use Rattle.stairs.proofs.Order.{Staircase, losing-in, losing-has, losing-staircase, among-new, among-in, among-has, among-staircase, take-losing, cut-in}
+use Rattle.climb.proofs.Order.{Staircase, losing-in, losing-has, losing-staircase, among-new, among-in, among-has, among-staircase, take-losing, cut-in}
 
 -- The rows rise in loss, fall in need, and lose less than the bound.
 pub record Ordered (s : Stairs) : Type 0 where

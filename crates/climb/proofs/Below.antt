@@ -15,11 +15,12 @@ use Rattle.model.specs.Valid.{Valid}
 use Rattle.model.proofs.Entries.{length-entries}
 use Rattle.walk.specs.Arrays.{Held}
 use Rattle.walk.specs.Steps.{periodsIn}
 use Rattle.stairs.specs.Stairs.{Stair}
-use Rattle.stairs.specs.Rows.{most, highWord, lowWord, lowIn, periodsAt, rowAt, rowsFrom, Blank, Legible, Collects}
-use Rattle.stairs.specs.Next.{AnswersUnder, Words, AnswersBelow}
+use Rattle.stairs.specs.Rows.{most, highWord, lowWord, lowIn, periodsAt, rowAt, rowsFrom, Blank, Legible}
+use Rattle.climb.specs.Steps.{Collects}
+use Rattle.climb.specs.Next.{AnswersUnder, Words, AnswersBelow}
 use Rattle.stairs.proofs.Words.{words-back}
-use Rattle.stairs.proofs.Next.{walk-stairs}
+use Rattle.climb.proofs.Next.{walk-stairs}
 
 -- the periods of a row as numbers
 abbrev numbers : List Seconds → List ℕ

@@ -1,9 +1,9 @@
--- `stairs::next_answers` meets its contract: the walk begins with no row.
+-- `climb::next_answers` meets its contract: the walk begins with no row.
 -- Assumes nothing.
-use Rattle.stairs.proofs.Climbing.{none-stand, answers}
+use Rattle.climb.proofs.Climbing.{none-stand, answers}
 use borrow.Author.Needs.{needs}
-use Rattle.stairs.proofs.next_answers.Statement.{statement}
-use Rattle.stairs.proofs.next_answers.Tie as tie
+use Rattle.climb.proofs.next_answers.Statement.{statement}
+use Rattle.climb.proofs.next_answers.Tie as tie
 
 array-write-marks : tie.Need-array-write-marks
 array-write-marks c = search needs

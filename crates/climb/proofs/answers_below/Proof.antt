@@ -1,11 +1,11 @@
--- `stairs::answers_below` meets its contract: the arrays hold the jobs, so what the walk collects are the next answers.
+-- `climb::answers_below` meets its contract: the arrays hold the jobs, so what the walk collects are the next answers.
 -- Assumes nothing.
 use borrow.Author.Needs.{needs}
 use Rattle.walk.proofs.Filled.{all-held}
 use Rattle.walk.proofs.Cuts.{ready-start}
-use Rattle.stairs.proofs.Below.{collected-below}
-use Rattle.stairs.proofs.answers_below.Statement.{statement}
-use Rattle.stairs.proofs.answers_below.Tie as tie
+use Rattle.climb.proofs.Below.{collected-below}
+use Rattle.climb.proofs.answers_below.Statement.{statement}
+use Rattle.climb.proofs.answers_below.Tie as tie
 
 seconds-of-requires : tie.Need-seconds-of-requires
 seconds-of-requires c κs = search needs

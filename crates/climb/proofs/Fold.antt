@@ -15,13 +15,13 @@ use Rattle.model.specs.Model.{seconds, Permitted, need, loss, NotAfter}
 use Rattle.model.specs.Valid.{ValidJobs}
 use Rattle.walk.specs.Chains.{chains}
 use Rattle.walk.specs.Walk.{visit, start, walk}
 use Rattle.stairs.specs.Stairs.{Stair, stair, Stairs, noBound, noStairs, covered, among, atMost, enter}
 use Rattle.walk.proofs.Sorted.{not-after-self, Sorted}
 use Rattle.walk.proofs.Chains.{multiples-lists, chains-only, chains-all, chains-sorted}
 use Rattle.walk.proofs.Walk.{walk-all}
 use Rattle.stairs.proofs.Updates.{Covering, covers}
-use Rattle.stairs.proofs.Order.{among-new, among-some, among-in, among-has}
-use Rattle.stairs.proofs.Ordered.{Ordered, entered, Limited, enter-either}
+use Rattle.climb.proofs.Order.{among-new, among-some, among-in, among-has}
+use Rattle.climb.proofs.Ordered.{Ordered, entered, Limited, enter-either}
 
 -- A row is a permitted plan that fits, with its own need and loss.
 pub record Plan (js : List Job) (b : ℕ) (r : Stair) : Type 0 where

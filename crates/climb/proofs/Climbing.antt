@@ -1,44 +1,21 @@
--- The cuts of the staircase's walk, as the code makes them, and what a further period leaves standing.
+-- What stands as the walk goes: nothing before it, rows in order below the bound and one more period in each turn, and the answers after it.
 -- Assumes nothing.
 use mathlib.Core.Path.{_≡_, refl, _∙_, ap}
 use mathlib.Core.Logic.{⊎-elim}
 use mathlib.Core.List.{List, [], _∷_, List·Memᴰ, List·Memᴰ·not-nil, List·Memᴰ·cases-cons}
-use mathlib.Core.Bool.{Bool, true}
 use Prim.Native.Nat.{ℕ, zero, suc, _+_, _≤_, _<_, zero-le}
 use native.Mathlib.Omega.{arith}
 use native.Mathlib.Nat.{le-refl}
 use native.Mathlib.Decide.{ℕ-discrete}
 use lib.ListN.{length, getD, set, replicate, length-set}
 use lib.Seq.{getD-set-same, getD-set-other}
-use Rattle.model.specs.declared.Seconds.{Seconds}
 use Rattle.model.specs.declared.PagesPerHour.{PagesPerHour}
 use Rattle.model.specs.Model.{seconds}
-use Rattle.walk.specs.Steps.{needAt, Unreached, ReadyForCut}
-use Rattle.walk.proofs.Cuts.{floors-cut, reach-cut}
-use Rattle.stairs.specs.Stairs.{Stair, Stairs, noBound, enter}
-use Rattle.stairs.specs.Rows.{most, rowAt, rowsFrom, stairsOf, Rises, Covers, Standing, EntersNothing, Climbs, Collects}
-use Rattle.stairs.proofs.Updates.{keeps-over, keeps-covered}
-use Rattle.stairs.proofs.Entering.{row-covers}
-use Rattle.stairs.proofs.Order.{Above, Staircase}
-use Rattle.stairs.proofs.Ordered.{Ordered}
-
-module _ {spans rates : List ℕ} {i n : ℕ} {t : Seconds} {written : ℕ} (r : ReadyForCut spans rates i n t written) (b : PagesPerHour) (floor : ℕ) (flat marks : List ℕ) where
-  -- the need floor is over the budget
-  pub over-enters-nothing : b .0 < needAt written t + getD rates (8 + i) 0 → EntersNothing spans rates i n b t written floor flat marks
-  over-enters-nothing over = floors-cut (enter most (b .0)) (stairsOf n flat marks) r floor (needAt written t + getD rates (8 + i) 0) 0 (le-refl _) zero-le (keeps-over most (b .0) (stairsOf n flat marks) over)
-
-  -- some row covers the floors
-  pub covered-enters-nothing : {q : ℕ} {c : Bool} → q ≡ needAt written t + getD rates (8 + i) 0 → Covers flat (getD marks 0 0) q floor c → c ≡ true → EntersNothing spans rates i n b t written floor flat marks
-  covered-enters-nothing {q} is c old =
-      let a = c .some old in
-      let to = a .1 in
-      let needs = a .2 in
-      floors-cut (enter most (b .0)) (stairsOf n flat marks) r floor (needAt written t + getD rates (8 + i) 0) floor (le-refl _) (le-refl _)
-      (keeps-covered most (b .0) (stairsOf n flat marks) (needAt written t + getD rates (8 + i) 0) floor (row-covers n flat (needAt written t + getD rates (8 + i) 0) floor 0 (getD marks 0 0) (a .0) zero-le (omega arith) (omega arith) (a .3)))
-
-  -- a later interval holds no multiple
-  pub unreached-enters-nothing : Unreached spans i n t → EntersNothing spans rates i n b t written floor flat marks
-  unreached-enters-nothing = reach-cut (enter most (b .0)) (stairsOf n flat marks) r floor
+use Rattle.stairs.specs.Stairs.{Stair, Stairs, noBound}
+use Rattle.stairs.specs.Rows.{rowAt, rowsFrom, stairsOf, Rises, Standing}
+use Rattle.climb.specs.Steps.{Climbs, Collects}
+use Rattle.climb.proofs.Order.{Above, Staircase}
+use Rattle.climb.proofs.Ordered.{Ordered}
 
 -- what stands in the array is in order below the bound
 module _ (n : ℕ) (flat : List ℕ) where
