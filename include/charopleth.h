@@ -2,8 +2,8 @@
  *
  * A profile as values is n, the number of jobs, and 40 numbers, job after job, five for each: numbers 5i to 5i + 4 are lo,
  * hi, data, metadata and stiffness of job i, counted from 0. lo and hi are the shortest and the longest period in seconds,
- * data and metadata the pages of one run. Jobs beyond n are ignored. Every value may be given. Refused are, n first, then
- * the first bad job, and of a job what stands first here:
+ * data and metadata the pages of one run. Jobs beyond n are ignored. Every value may be given. Refused are, before all
+ * else, n first, then the first bad job, and of a job what stands first here:
  *
  *     3  n is 0 or above 8; the detail is 0
  *     5  lo is 0, hi below lo, or hi above 3,600; the detail of this and the next two is the job's number from 1
@@ -18,7 +18,7 @@
  *
  * Each function returns a number of 64 bits: the high 16 bits are the refusal's number, 0 for none, and the low 48 its
  * detail, 0 where none is said, or where nothing is refused the count that is said below. A detail or count of 2^48 or more,
- * which no memory holds, is told as 2^48 - 1. On a refusal no array and no buffer is changed.
+ * which never occurs, would be told as 2^48 - 1. On a refusal no array and no buffer is changed.
  *
  * What is proved holds for pointers to arrays of the length that is said, aligned, not null where the length is not 0, and
  * not overlapping one another. Nothing is kept between calls, and nothing is allocated; no call was seen to need more than
@@ -60,10 +60,10 @@ uint64_t charopleth_score(uint32_t n, const uint32_t jobs[40], const uint32_t pe
 uint64_t charopleth_choose(uint32_t n, const uint32_t jobs[40], uint32_t budget, uint64_t answer[10]);
 
 /* The harmonic zones of a profile: lists of multipliers 1, a2 .. an, each a multiple of the one before, with all first periods
- * for which the multiples lie in the jobs' intervals. A row of sixteen bytes each, at the front of `room`: least and greatest
- * first period and the multipliers a2 to a8, 12 bits each, then 20 zero bits; multipliers beyond n are 0. By a2, then a3, and
- * so on, rising. Returns the number of rows; bytes after them are untouched. Refuses 9 where there are none, and 11 where
- * length / 16 rows are too few, with the number needed. */
+ * for which the multiples lie in the jobs' intervals, at least one. A row of sixteen bytes each, at the front of `room`: least
+ * and greatest first period and the multipliers a2 to a8, 12 bits each, then 20 zero bits; multipliers beyond n are 0. By a2,
+ * then a3, and so on, rising. Returns the number of rows; bytes after them are untouched. Refuses 9 where there are none, and
+ * 11 where length / 16 rows are too few, with the number needed. */
 uint64_t charopleth_zones(uint32_t n, const uint32_t jobs[40], uint8_t *room, size_t length);
 
 /* The budget table of a profile, a row of sixteen bytes for each different best answer as the budget goes through all 32-bit
@@ -76,7 +76,7 @@ uint64_t charopleth_table(uint32_t n, const uint32_t jobs[40], uint8_t *room, si
  * is checked in full before it is believed: each row has permitted periods with zeros beyond n, a start equal to their need,
  * and a greater start and a smaller loss than the row before. Returns the row's number, counted from 1, so that its sixteen
  * bytes begin at table + 16 * (number - 1). Refuses 12 with the number of the first row that is not so, or with 0 where length
- * is not a positive multiple of 16, and 10 where the first start is above the budget, with that start. */
+ * is not a positive multiple of 16, then 10 where the first start is above the budget, with that start. */
 uint64_t charopleth_lookup(uint32_t n, const uint32_t jobs[40], const uint8_t *table, size_t length, uint32_t budget);
 
 #ifdef __cplusplus

@@ -72,9 +72,9 @@ module _ {input old : List ℕ} {l : Listing} {new : List ℕ} (prepared : Prepa
     unfolding textOf
     sound-text =
         let rows = prepared .built .rows in
-        let e = sym (prepared .profile) in
+        let e = sym (prepared .profile ∙ sym (beside-sound _ _ (sym sound))) in
         sound-lines l sound (subst Valid e valid) (subst (λ (q : Profile). AllPermitted (jobsOf q) rows) e all-permitted) (subst (λ (q : Profile). Laid (jobsOf q) rows new) e laid) count
-        ∙ ap (λ (q : Profile). headerLine (q .n) (length rows) ++ rowLines (jobsOf q) rows) (prepared .profile)
+        ∙ ap (λ (q : Profile). headerLine (q .n) (length rows) ++ rowLines (jobsOf q) rows) (sym e)
         ∙ beside-sound _ _ (sym sound ∙ verdict-is)
 
 -- Line 0 to the last line, written one after the other, are the text of the input.

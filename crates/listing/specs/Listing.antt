@@ -10,7 +10,7 @@ use Rattle.model.specs.declared.Profile.{Profile}
 use Rattle.model.specs.declared.Counted.{Counted}
 use Rattle.model.specs.Model.{periodsOf, orElse, ifSound}
 use Rattle.reading.specs.declared.Reading.{Reading}
-use Rattle.reading.specs.Reading.{Reads}
+use Rattle.reading.specs.Reading.{noProfile, Reads}
 use Rattle.score.specs.Scoring.{scoreVerdict}
 use Rattle.table.specs.Table.{Built}
 use Rattle.tablerows.specs.Table.{rowsIn, startAt, periodsAt, lossAt}
@@ -29,16 +29,16 @@ unfoldable pub lineAt : Listing → List ℕ → ℕ → List ℕ
 lineAt l table zero = ifSound (l .verdict) (headerLine (l .profile .n) (l .rows)) (refusalLine (l .verdict))
 lineAt l table (suc k) = ifSound (l .verdict) (cond (ltb k (l .rows)) (lineOfRow (l .profile) table k) []) []
 
--- What `prepare` may answer, and leave of a lent table that held `old`: as reading and then building have it. Beside a
--- refused reading the profile is all zeros, which building refuses: there are no rows and no byte changes. What is lent is room
--- for 4,096 rows of sixteen bytes.
+-- What `prepare` may answer, and leave of a lent table that held `old`: as reading and then building have it, zeros
+-- beside a refusal. A refused reading gives a profile of zeros, which building refuses: there are no rows and no byte changes.
+-- What is lent is room for 4,096 rows of sixteen bytes.
 pub record Prepares (input old : List ℕ) (l : Listing) (new : List ℕ) : Type 0 where
   pub reading : Reading
   pub read : Reads input reading
   pub building : Counted
   pub built : Built (reading .profile) old building new
   pub verdict : l .verdict ≡ orElse (reading .verdict) (building .verdict)
-  pub profile : l .profile ≡ reading .profile
+  pub profile : l .profile ≡ ifSound (l .verdict) (reading .profile) noProfile
   pub rows : l .rows ≡ building .count
   pub room : length old ≡ 16 * 4096
   pub kept : length new ≡ 16 * 4096

@@ -8,7 +8,7 @@ ghost use Rattle.io.specs.Counts.{Counts};
 ghost use Rattle.lines.specs.Writing.{Puts};
 ghost use Rattle.listing.specs.Listing.{lineOfRow, Prepares, Prints};
 
-// A profile and the number of rows of its table, or why there is none.
+// A profile and the number of rows of its table, or why there is none; beside a refusal zeros.
 pub struct Listing {
     pub verdict: Verdict,
     pub profile: Profile,
@@ -33,6 +33,13 @@ pub fn prepare(input: &[u8], table: &mut [u8; 65536]) -> Listing
     };
     let built = table::build_table(profile, room);
     let w = built.verdict;
+    let Verdict::Sound = w else {
+        return Listing {
+            verdict: w,
+            profile: reading::no_profile(),
+            rows: 0,
+        };
+    };
     Listing {
         verdict: w,
         profile,

@@ -130,7 +130,8 @@ fn values(bytes: &[u8], n: usize) -> Profile
     Profile { n: n as u32, jobs }
 }
 
-fn no_profile() -> Profile
+// The zeros that stand for a profile beside a refusal.
+pub fn no_profile() -> Profile
     ensures { λ r. ⌜ r ≡ noProfile ⌝ }
 {
     Profile {
