@@ -11,11 +11,11 @@ use Rattle.model.specs.declared.Profile.{Profile}
 use Rattle.model.specs.declared.Counted.{Counted}
 use Rattle.model.specs.declared.Verdict.{Verdict}
 use Rattle.model.specs.declared.Verdict.the-variants.{Sound, NoPeriods, Budget, Row}
-use Rattle.model.specs.Model.{seconds, pagesPerHour, jobsOf, Permitted, verdictOf}
+use Rattle.model.specs.Model.{seconds, pagesPerHour, jobsOf, Permitted, verdictOf, padded}
 use Rattle.score.specs.declared.Scored.{Scored}
 use Rattle.score.specs.Scoring.{Scores}
 use Rattle.choose.specs.declared.Choice.{Choice}
-use Rattle.choose.specs.Choice.{padded, refused, Chosen}
+use Rattle.choose.specs.Choice.{refused, Chosen}
 use Rattle.zones.specs.Zones.{Listed}
 use Rattle.table.specs.Table.{Built}
 use Rattle.lookup.specs.Lookup.{lookupVerdict, LooksUp, Locates}
@@ -58,7 +58,7 @@ abbrev profileA : Profile
 profileA = profile (job 20 25 9 1 1 ∷ job 43 74 18 2 1 ∷ job 45 100 36 4 1 ∷ [])
 
 abbrev eight : List ℕ → List Seconds
-eight ts = padded (map seconds ts)
+eight ts = padded (seconds 0) (map seconds ts)
 
 abbrev plan : ℕ → ℕ → List ℕ → Choice
 plan q l ts = record { verdict = Sound; periods = eight ts; need = pagesPerHour q; loss = l }

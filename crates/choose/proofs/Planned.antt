@@ -8,10 +8,9 @@ use native.Mathlib.Numerals.{add-one}
 use lib.ListN.{length, getD, take, set, replicate}
 use lib.Seq.{take-suc, set-at, append-snoc}
 use Rattle.model.specs.declared.Seconds.{Seconds}
-use Rattle.model.specs.Model.{seconds}
+use Rattle.model.specs.Model.{seconds, padded}
 use Rattle.walk.specs.Steps.{periodsIn}
 use Rattle.walk.proofs.Climbing.{periods-snoc}
-use Rattle.choose.specs.Choice.{padded}
 
 pub periods-length : (k : ℕ) (xs : List ℕ) → k ≤ length xs → length (periodsIn k xs) ≡ k
 periods-length zero xs h = refl
@@ -31,5 +30,5 @@ plan-more best ps k less size e =
     ∙ sym (append-snoc (periodsIn k best) v rest)
     ∙ sym (ap (λ (l : List Seconds). l ++ rest) more)
 
-pub plan-padded : (n : ℕ) (best : List ℕ) → n ≤ length best → padded (periodsIn n best) ≡ periodsIn n best ++ replicate (8 - n) (seconds 0)
+pub plan-padded : (n : ℕ) (best : List ℕ) → n ≤ length best → padded (seconds 0) (periodsIn n best) ≡ periodsIn n best ++ replicate (8 - n) (seconds 0)
 plan-padded n best h = ap (λ (m : ℕ). periodsIn n best ++ replicate (8 - m) (seconds 0)) (periods-length n best h)

@@ -7,9 +7,9 @@ use Rattle.model.specs.declared.PagesPerHour.{PagesPerHour}
 use Rattle.model.specs.declared.Job.{Job}
 use Rattle.model.specs.declared.Profile.{Profile}
 use Rattle.model.specs.declared.Verdict.the-variants.{Sound}
-use Rattle.model.specs.Model.{pagesPerHour, jobsOf, verdictOf}
+use Rattle.model.specs.Model.{seconds, pagesPerHour, jobsOf, verdictOf, padded}
 use Rattle.choose.specs.declared.Choice.{Choice}
-use Rattle.choose.specs.Choice.{padded, answered, refused, Chosen, Outcome, given, none-permitted, none-fit}
+use Rattle.choose.specs.Choice.{answered, refused, Chosen, Outcome, given, none-permitted, none-fit}
 use Rattle.offers.specs.Found.{Found, nothing, found}
 use Rattle.search.specs.Least.{Least, none, least}
 use Rattle.choose.specs.Steps.{settle}
@@ -21,7 +21,7 @@ unfolding settle
 settled js b (found q l ts) m h k = subst (Outcome js b) (sym told) (given (h .best))
   where
     told : settle (found q l ts) m ≡ answered js ts
-    told = ap₂ (λ (x y : ℕ). record { verdict = Sound; periods = padded ts; need = pagesPerHour x; loss = y }) (h .its-need) (h .its-loss)
+    told = ap₂ (λ (x y : ℕ). record { verdict = Sound; periods = padded (seconds 0) ts; need = pagesPerHour x; loss = y }) (h .its-need) (h .its-loss)
 settled js b nothing (least m) h k = none-fit k h
 settled js b nothing none h k = none-permitted k
 

@@ -1,25 +1,21 @@
 -- What `choose` may answer, in the words of document 01; cited by the public contract.
 -- Assumes nothing.
 use mathlib.Core.Path.{_≡_}
-use mathlib.Core.List.{List, _++_}
-use Prim.Native.Nat.{_-_, _≤_}
-use lib.ListN.{length, replicate}
+use mathlib.Core.List.{List}
+use Prim.Native.Nat.{_≤_}
+use lib.ListN.{replicate}
 use Rattle.model.specs.declared.Seconds.{Seconds}
 use Rattle.model.specs.declared.PagesPerHour.{PagesPerHour}
 use Rattle.model.specs.declared.Job.{Job}
 use Rattle.model.specs.declared.Profile.{Profile}
 use Rattle.model.specs.declared.Verdict.{Verdict}
 use Rattle.model.specs.declared.Verdict.the-variants.{Sound, NoPeriods, Budget}
-use Rattle.model.specs.Model.{seconds, pagesPerHour, jobsOf, Permitted, need, FitsBudget, loss, Best, verdictOf}
+use Rattle.model.specs.Model.{seconds, pagesPerHour, jobsOf, Permitted, need, FitsBudget, loss, Best, verdictOf, padded}
 use Rattle.choose.specs.declared.Choice.{Choice}
-
--- A list of periods, followed by zeros up to eight entries (Quantities, on choosing).
-abbrev pub padded : List Seconds → List Seconds
-padded ts = ts ++ replicate (8 - length ts) (seconds 0)
 
 -- These periods, with their need and their loss (Quantities, on choosing).
 abbrev pub answered : List Job → List Seconds → Choice
-answered js ts = record { verdict = Sound; periods = padded ts; need = need js ts; loss = loss js ts }
+answered js ts = record { verdict = Sound; periods = padded (seconds 0) ts; need = need js ts; loss = loss js ts }
 
 -- A refusal, and nothing else beside it (Refusal numbers).
 abbrev pub refused : Verdict → Choice

@@ -5,16 +5,16 @@ use mathlib.Core.List.{List}
 use Prim.Native.Nat.{ℕ, _^_, _≤_, _<_}
 use lib.ListN.{length, getD}
 use Rattle.model.specs.declared.Verdict.the-variants.{Sound, NoPeriods, Budget}
-use Rattle.model.specs.Model.{pagesPerHour}
+use Rattle.model.specs.Model.{seconds, pagesPerHour, padded}
 use Rattle.walk.specs.Steps.{periodsIn}
 use Rattle.offers.specs.Found.{Found, nothing, found}
 use Rattle.search.specs.Least.{Least, none, least}
 use Rattle.choose.specs.declared.Choice.{Choice}
-use Rattle.choose.specs.Choice.{padded, refused}
+use Rattle.choose.specs.Choice.{refused}
 
 -- What is answered: the plan found; where there is none, 10 with the least need; where there is no need either, 9.
 unfoldable pub settle : Found → Least → Choice
-settle (found q l ts) had = record { verdict = Sound; periods = padded ts; need = pagesPerHour q; loss = l }
+settle (found q l ts) had = record { verdict = Sound; periods = padded (seconds 0) ts; need = pagesPerHour q; loss = l }
 settle nothing (least m) = refused (Budget (pagesPerHour m))
 settle nothing none = refused NoPeriods
 
@@ -27,4 +27,4 @@ pub record Small (n : ℕ) (best : List ℕ) : Type 0 where
 
 -- The answer that a best plan stands for.
 abbrev pub planIn : ℕ → List ℕ → Choice
-planIn n best = record { verdict = Sound; periods = padded (periodsIn n best); need = pagesPerHour (getD best 8 0); loss = getD best 9 0 }
+planIn n best = record { verdict = Sound; periods = padded (seconds 0) (periodsIn n best); need = pagesPerHour (getD best 8 0); loss = getD best 9 0 }

@@ -12,7 +12,7 @@ use Rattle.model.specs.Model.{seconds, noJob, entries, jobsOf, lastOf, pagesIn,
 use Rattle.model.proofs.Validity.{sound-valid}
 use Rattle.codec.specs.Packing.{bits, pack, unpack, recut}
 use Rattle.reading.specs.declared.Reading.{Reading}
-use Rattle.reading.specs.Reading.{headerOf, recordsIn, judgeRecord, judgeHeader, verdictOfBytes, eightJobs, Reads}
+use Rattle.reading.specs.Reading.{headerOf, recordsIn, judgeRecord, judgeHeader, verdictOfBytes, Reads}
 use Rattle.walk.specs.Walk.{walkBy, visit}
 use Rattle.offers.specs.Found.{pick, beats}
 use Rattle.walk.specs.Chains.{multiples, risingFrom, climb}
@@ -64,7 +64,7 @@ rowsA : List (List Seconds)
 rowsA = three 25 50 100 ∷ three 24 72 72 ∷ three 23 69 69 ∷ three 22 66 66 ∷ three 21 63 63 ∷ three 20 60 60 ∷ three 25 50 50 ∷ three 24 48 48 ∷ three 23 46 46 ∷ []
 
 reads : Reads bytesA readingA
-unfolding bytesA readingA profileA job verdictOfBytes judgeHeader headerOf judgeRecord judgeIntervalAndStiffness firstRefused orElse refuseIf ifSound recordsIn eightJobs recut pack unpack bits
+unfolding bytesA readingA profileA job verdictOfBytes judgeHeader headerOf judgeRecord judgeIntervalAndStiffness firstRefused orElse refuseIf ifSound recordsIn recut pack unpack bits
 reads = record { verdict = refl; profile = refl }
 
 sound : verdictOf profileA ≡ Sound

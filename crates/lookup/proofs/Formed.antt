@@ -16,13 +16,14 @@ use Rattle.model.specs.declared.Verdict.{Verdict}
 use Rattle.model.specs.declared.Verdict.the-variants.{Sound, Budget, Row}
 use Rattle.model.specs.Model.{seconds, numberOf, detailOf, refuseIf, verdictOf}
 use Rattle.model.specs.Valid.{Valid}
+use Rattle.model.proofs.Allowing.{both-true}
 use Rattle.model.proofs.Validity.{valid-sound}
 use Rattle.model.proofs.Verdicts.{sound-passes}
 use Rattle.tablerows.specs.Table.{rowsIn, startAt, periodsAt, needAt, lossAt, follows}
 use Rattle.lookup.specs.Formed.{GoodAfter, GoodRow, WellFormed}
 use Rattle.lookup.specs.Lookup.{placesRight, rowRight, firstBad, tableVerdict, lookupVerdict}
 use Rattle.lookup.proofs.Chain.{Whole, no-bytes, part-left, bad-named, all-good}
-use Rattle.lookup.proofs.Places.{both-true, both-hold, places-permitted, places-zeros, places-back}
+use Rattle.lookup.proofs.Places.{both-hold, places-permitted, places-zeros, places-back}
 
 -- the rule of the row before
 after-one : (j : ℕ) (s t : PagesPerHour) (l m : ℕ) → follows (j + 1) s l t m ≡ (ltb (s .0) (t .0) && ltb m l)

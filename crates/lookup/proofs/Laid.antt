@@ -10,7 +10,7 @@ use lib.Seq.{take-at, drop-append-add}
 use Rattle.model.specs.declared.Seconds.{Seconds}
 use Rattle.model.specs.declared.Job.{Job}
 use Rattle.model.specs.declared.Profile.{Profile}
-use Rattle.model.specs.Model.{seconds, pagesPerHour, noJob, entries, jobsOf, periodsOf, PermittedAfter, Permitted, need, loss}
+use Rattle.model.specs.Model.{seconds, pagesPerHour, noJob, entries, jobsOf, periodsOf, PermittedAfter, Permitted, need, loss, padded}
 use Rattle.model.specs.Valid.{ValidJobs, Valid}
 use Rattle.model.proofs.Entries.{length-entries, entries-front}
 use Rattle.codec.specs.Packing.{bits, recut}
@@ -18,7 +18,6 @@ use Rattle.codec.specs.Layout.{byteWidths}
 use Rattle.codec.specs.Rows.{tableWidths, tableRow}
 use Rattle.codec.proofs.Packing.{Within, recut-back, recut-within, length-recut}
 use Rattle.codec.proofs.Bytes.{Bytes}
-use Rattle.choose.specs.Choice.{padded}
 use Rattle.table.specs.Table.{tableBytes}
 use Rattle.table.proofs.Best.{need-small}
 use Rattle.table.proofs.TableRows.{getD-padded, same-entries, period-to}
@@ -37,10 +36,10 @@ pub all-entries : (ts : List Seconds) (k : ℕ) → length ts ≡ k → entries 
 all-entries ts k size = ap₂ (λ (l : List Seconds) (n : ℕ). entries (seconds 0) l 0 n) (sym (append-nil ts)) (sym size) ∙ entries-front (seconds 0) ts []
 
 -- eight entries are the list and the zeros behind it
-eight-entries : (ts : List Seconds) → length ts ≤ 8 → entries (seconds 0) ts 0 8 ≡ padded ts
+eight-entries : (ts : List Seconds) → length ts ≤ 8 → entries (seconds 0) ts 0 8 ≡ padded (seconds 0) ts
 eight-entries ts few =
-    let size : length (padded ts) ≡ 8 = length-append ts (replicate (8 - length ts) (seconds 0)) ∙ omega (arith, length-replicate (8 - length ts) (seconds 0)) in
-    same-entries ts (padded ts) 0 8 (λ j. sym (getD-padded ts (8 - length ts) j)) ∙ all-entries (padded ts) 8 size
+    let size : length (padded (seconds 0) ts) ≡ 8 = length-append ts (replicate (8 - length ts) (seconds 0)) ∙ omega (arith, length-replicate (8 - length ts) (seconds 0)) in
+    same-entries ts (padded (seconds 0) ts) 0 8 (λ j. sym (getD-padded ts (8 - length ts) j)) ∙ all-entries (padded (seconds 0) ts) 8 size
 
 seconds-again : (ts : List Seconds) → map seconds (map (λ t. t .0) ts) ≡ ts
 seconds-again [] = refl
@@ -146,16 +145,16 @@ module _ (js : List Job) (v : ValidJobs js) (few : length js ≤ 8) {rows : List
   pub start-at : startAt bytes k ≡ need js (getD rows k [])
   start-at = ap (λ (fs : List ℕ). pagesPerHour (getD fs 0 0)) fields-at
 
-  pub periods-at : periodsAt bytes k ≡ padded (getD rows k [])
+  pub periods-at : periodsAt bytes k ≡ padded (seconds 0) (getD rows k [])
   periods-at =
       ap (λ (fs : List ℕ). map seconds (drop 1 fs)) fields-at
       ∙ seconds-again (entries (seconds 0) (getD rows k []) 0 8)
       ∙ eight-entries (getD rows k []) (omega (arith, permitted-length (seconds 1) js (getD rows k []) permitted-there))
 
 -- the periods that count are the list itself
-pub unpadded : (p : Profile) (ts : List Seconds) → Permitted (jobsOf p) ts → periodsOf p (padded ts) ≡ ts
+pub unpadded : (p : Profile) (ts : List Seconds) → Permitted (jobsOf p) ts → periodsOf p (padded (seconds 0) ts) ≡ ts
 unpadded p ts h =
-    ap (entries (seconds 0) (padded ts) 0) (sym (length-entries noJob (p .jobs) 0 (p .n)) ∙ sym (permitted-length (seconds 1) (jobsOf p) ts h))
+    ap (entries (seconds 0) (padded (seconds 0) ts) 0) (sym (length-entries noJob (p .jobs) 0 (p .n)) ∙ sym (permitted-length (seconds 1) (jobsOf p) ts h))
     ∙ entries-front (seconds 0) ts (replicate (8 - length ts) (seconds 0))
 
 pub few-jobs : (p : Profile) → Valid p → length (jobsOf p) ≤ 8

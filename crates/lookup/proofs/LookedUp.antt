@@ -15,12 +15,12 @@ use Rattle.model.specs.declared.Job.{Job}
 use Rattle.model.specs.declared.Profile.{Profile}
 use Rattle.model.specs.declared.Counted.{Counted}
 use Rattle.model.specs.declared.Verdict.the-variants.{Sound, Budget}
-use Rattle.model.specs.Model.{jobsOf, need, loss, Best, numberOf, refuseIf, verdictOf, rowsVerdict}
+use Rattle.model.specs.Model.{seconds, jobsOf, need, loss, Best, numberOf, refuseIf, verdictOf, rowsVerdict, padded}
 use Rattle.model.specs.Valid.{ValidJobs, Valid}
 use Rattle.model.proofs.Validity.{sound-valid, valid-sound}
 use Rattle.model.proofs.Verdicts.{both-sound, test-passed, beside-sound}
 use Rattle.choose.specs.declared.Choice.{Choice}
-use Rattle.choose.specs.Choice.{padded, answered, LeastBudget, Outcome, given, none-permitted, none-fit, Chosen}
+use Rattle.choose.specs.Choice.{answered, LeastBudget, Outcome, given, none-permitted, none-fit, Chosen}
 use Rattle.choose.proofs.OneOutcome.{one-least-budget}
 use Rattle.table.specs.Table.{TableOf, tableBytes, Built}
 use Rattle.table.proofs.Best.{best-at-need, needs-follow}
@@ -89,7 +89,7 @@ module _ (p : Profile) (v : Valid p) {rows : List (List Seconds)} (t : TableOf (
     best-shown : (i : ℕ) → i < length rows → getD rows i [] ≡ ts → Shows p (tableBytes (jobsOf p) rows) i (answered (jobsOf p) ts)
     best-shown i less e = record {
       start = row-start p v t (laid-alone (jobsOf p) rows) i less ∙ ap (need (jobsOf p)) e;
-      periods = row-periods p v t (laid-alone (jobsOf p) rows) i less ∙ ap padded e;
+      periods = row-periods p v t (laid-alone (jobsOf p) rows) i less ∙ ap (padded (seconds 0)) e;
       loss = loss-at p v (table-permitted t) (laid-alone (jobsOf p) rows) i less ∙ ap (loss (jobsOf p)) e;
     }
 

@@ -13,31 +13,16 @@ use borrow.Author.Tests.{ltb-true, ltb-false, eqb-true, eqb-false, not-true, lt-
 use Rattle.model.specs.declared.Seconds.{Seconds}
 use Rattle.model.specs.declared.Job.{Job}
 use Rattle.model.specs.declared.Profile.{Profile}
-use Rattle.model.specs.Model.{seconds, noJob, entries, jobsOf, periodsOf, Allowed, PermittedAfter, Permitted}
+use Rattle.model.specs.Model.{seconds, noJob, entries, jobsOf, periodsOf, Allowed, allows, PermittedAfter, Permitted}
 use Rattle.model.proofs.Entries.{entries-step, entries-end}
-use Rattle.tablerows.specs.Table.{allows}
+use Rattle.model.proofs.Allowing.{both-true, allowed, allowed-back}
 use Rattle.tablerows.specs.Cut.{zerosFrom}
 use Rattle.lookup.specs.Lookup.{placeRight, placesRight}
-
-pub both-true : (a : Bool) {b : Bool} → (a && b) ≡ true → (a ≡ true) × (b ≡ true)
-both-true true e = (refl, e)
-both-true false e = (e, absurd (eqb-false 0 1 refl (ap (λ (t : Bool). cond t 1 0) e)))
 
 pub both-hold : {a b : Bool} → a ≡ true → b ≡ true → (a && b) ≡ true
 both-hold f g = rw (f, g)
 
 -- one place
-pub allowed : (j : Job) (before t : Seconds) → allows j before t ≡ true → Allowed j before t
-unfolding allows
-allowed j before t e =
-    let a = both-true (not (ltb (t .0) (j .lo .0))) e in
-    let b = both-true (not (ltb (j .hi .0) (t .0))) (a .1) in
-    record { above = ltb-false _ _ (not-true _ (a .0)); below = ltb-false _ _ (not-true _ (b .0)); multiple = eqb-true _ _ (b .1) }
-
-allowed-back : (j : Job) (before t : Seconds) → Allowed j before t → allows j before t ≡ true
-unfolding allows
-allowed-back j before t a = simp (le-ltb (t .0) (j .lo .0) (a .above), le-ltb (j .hi .0) (t .0) (a .below), eq-eqb _ 0 (a .multiple))
-
 module _ (p : Profile) (i : ℕ) (before t : Seconds) where
   pub of-job : i < p .n → placeRight p i before t ≡ allows (getD (p .jobs) i noJob) before t
   unfolding placeRight

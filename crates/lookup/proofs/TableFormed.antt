@@ -8,10 +8,9 @@ use lib.ListN.{length, getD, List·getD-eq-default}
 use Rattle.model.specs.declared.Seconds.{Seconds}
 use Rattle.model.specs.declared.PagesPerHour.{PagesPerHour}
 use Rattle.model.specs.declared.Profile.{Profile}
-use Rattle.model.specs.Model.{seconds, noJob, jobsOf, Permitted, need}
+use Rattle.model.specs.Model.{seconds, noJob, jobsOf, Permitted, need, padded}
 use Rattle.model.specs.Valid.{Valid}
 use Rattle.model.proofs.Entries.{length-entries}
-use Rattle.choose.specs.Choice.{padded}
 use Rattle.table.specs.Table.{TableOf, tableBytes}
 use Rattle.table.proofs.TableRows.{getD-padded}
 use Rattle.tablerows.specs.Table.{rowsIn, startAt, periodsAt}
@@ -27,7 +26,7 @@ module _ (p : Profile) (v : Valid p) {rows : List (List Seconds)} (t : TableOf (
     pub start-number : startAt bytes k .0 ≡ need (jobsOf p) (getD rows k []) .0
     start-number = ap (λ (q : PagesPerHour). q .0) row-start
 
-    pub row-periods : periodsAt bytes k ≡ padded (getD rows k [])
+    pub row-periods : periodsAt bytes k ≡ padded (seconds 0) (getD rows k [])
     row-periods = periods-at (jobsOf p) (v .jobs) (few-jobs p v) (table-permitted t) l k less
 
     row-permitted : Permitted (jobsOf p) (getD rows k [])

@@ -12,8 +12,9 @@ use Rattle.model.specs.declared.Seconds.{Seconds}
 use Rattle.model.specs.declared.PagesPerHour.{PagesPerHour}
 use Rattle.model.specs.declared.Job.{Job}
 use Rattle.model.specs.declared.Profile.{Profile}
-use Rattle.model.specs.Model.{seconds, pagesPerHour, noJob, entries, jobsOf, periodsOf, cost, lastOf, roundUp, need, jobLoss, loss}
+use Rattle.model.specs.Model.{seconds, pagesPerHour, noJob, entries, jobsOf, periodsOf, cost, lastOf, roundUp, need, jobLoss, loss, allows}
 use Rattle.model.specs.Valid.{Valid}
+use Rattle.model.proofs.Allowing.{allowed}
 use Rattle.model.proofs.Bounds.{eight-losses}
 use Rattle.model.proofs.Entries.{entries-step, entries-end}
 use Rattle.model.proofs.Validity.{job-valid-at}
@@ -22,11 +23,11 @@ use Rattle.walk.specs.Steps.{NeedFits, needAt as needFrom}
 use Rattle.walk.proofs.Bounds.{start-bounded, next-bounded}
 use Rattle.walk.proofs.Pages.{need-is as need-after}
 use Rattle.tablerows.specs.declared.TableRow.{TableRow}
-use Rattle.tablerows.specs.Table.{startAt, periodsAt, needAt, lossAt, allows, follows}
+use Rattle.tablerows.specs.Table.{startAt, periodsAt, needAt, lossAt, follows}
 use Rattle.tablerows.specs.Cut.{rowAt, zerosFrom}
 use Rattle.lookup.specs.Lookup.{placesRight, rowRight, firstBad}
 use Rattle.lookup.proofs.Judging.{bad-row, good-row, no-row, place-broken, start-broken, last-rule, bad-place, good-place}
-use Rattle.lookup.proofs.Places.{allowed, of-job, beyond-jobs, places-permitted}
+use Rattle.lookup.proofs.Places.{of-job, beyond-jobs, places-permitted}
 
 -- before a turn of the loop over rows: the verdict is that of the rows from the k-th on, and the row before is known
 pub record RowsLeft (p : Profile) (bytes : List ℕ) (rows : ℕ) (start : PagesPerHour) (loss k : ℕ) : Type 0 where

@@ -13,8 +13,8 @@ use Rattle.model.specs.declared.Profile.{Profile}
 use Rattle.model.specs.declared.Counted.{Counted}
 use Rattle.model.specs.declared.Verdict.{Verdict}
 use Rattle.model.specs.declared.Verdict.the-variants.{Sound, Budget, Row}
-use Rattle.model.specs.Model.{seconds, noJob, refuseIf, orElse, ifSound, verdictOf}
-use Rattle.tablerows.specs.Table.{rowsIn, startAt, periodsAt, needAt, lossAt, allows, follows}
+use Rattle.model.specs.Model.{seconds, noJob, refuseIf, orElse, ifSound, verdictOf, allows}
+use Rattle.tablerows.specs.Table.{rowsIn, startAt, periodsAt, needAt, lossAt, follows}
 
 -- Whether the period at place i of a row is right: its job allows it, or it is 0 beyond n (The table).
 unfoldable pub placeRight : Profile → ℕ → Seconds → Seconds → Bool

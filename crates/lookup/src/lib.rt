@@ -97,7 +97,7 @@ fn first_bad_row(p: Profile, table: &[u8]) -> usize
         while i < n {
             let j = p.jobs[i];
             let t = periods[i];
-            if !tablerows::allowed(j, before, t) {
+            if !model::allowed(j, before, t) {
                 break 'rows k + 1;
             }
             let fastest = rates[i];

@@ -1,3 +1,4 @@
+pub mod Allowing
 pub mod Bounds
 pub mod Entries
 pub mod Numbers

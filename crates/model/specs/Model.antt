@@ -3,9 +3,9 @@
 -- cites publicly. Need, loss and permitted periods are meant for the jobs of a valid profile. Assumes nothing.
 use mathlib.Core.Path.{_≡_}
 use mathlib.Core.List.{List, [], _∷_, _++_}
-use mathlib.Core.Bool.{Bool, true, false, cond}
+use mathlib.Core.Bool.{Bool, true, false, not, cond, _&&_}
 use Prim.Native.Nat.{ℕ, zero, suc, _+_, _*_, _-_, _/_, _%_, _^_, _≤_}
-use lib.ListN.{length, getD, drop}
+use lib.ListN.{length, getD, drop, replicate}
 use lib.Dec.{eqb, ltb}
 use Rattle.model.specs.declared.Seconds.{Seconds}
 use Rattle.model.specs.declared.PagesPerHour.{PagesPerHour}
@@ -33,6 +33,10 @@ unfoldable pub entries : {A : Type 0} → A → List A → ℕ → ℕ → List 
 entries d xs i zero = []
 entries d xs i (suc k) = getD xs i d ∷ entries d xs (i + 1) k
 
+-- Eight places: a list, and `d` beyond it (Packing; Quantities, on choosing).
+abbrev pub padded : {A : Type 0} → A → List A → List A
+padded d xs = xs ++ replicate (8 - length xs) d
+
 -- The jobs of a profile: the first n of its eight places (Packing).
 abbrev pub jobsOf : Profile → List Job
 jobsOf p = entries noJob (p .jobs) 0 (p .n)
@@ -50,6 +54,10 @@ pub record Allowed (j : Job) (before t : Seconds) : Type 0 where
   pub above : j .lo .0 ≤ t .0
   pub below : t .0 ≤ j .hi .0
   pub multiple : t .0 % before .0 ≡ 0
+
+-- The same as a test.
+unfoldable pub allows : Job → Seconds → Seconds → Bool
+allows j before t = not (ltb (t .0) (j .lo .0)) && (not (ltb (j .hi .0) (t .0)) && eqb (t .0 % before .0) 0)
 
 -- One period for each job, each allowed after the one before it (Quantities).
 abbrev pub PermittedAfter : Seconds → List Job → List Seconds → Type 0

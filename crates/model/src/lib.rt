@@ -1,9 +1,10 @@
 // The values of the planner and what they mean: jobs, profiles, and the verdict that every operation gives.
 //
 // specs/Model.antt says what a plan is and when it is right; every public contract of the planner is stated with it.
-// Nothing is assumed, and no function here has a `requires`.
+// Nothing is assumed, and but for `allowed` no function here has a `requires`.
 ghost use mathlib.Core.Path.{_≡_};
-ghost use Rattle.model.specs.Model.{numberOf, detailOf, judgeIntervalAndStiffness, judgeJob, verdictOf};
+ghost use Prim.Native.Nat.{_≤_};
+ghost use Rattle.model.specs.Model.{numberOf, detailOf, judgeIntervalAndStiffness, judgeJob, verdictOf, allows};
 
 // Whole seconds: a period, or an end of a job's interval.
 pub struct Seconds(pub u32);
@@ -163,4 +164,18 @@ pub fn judge_interval_and_stiffness(j: Job, k: u32) -> Verdict
         return Verdict::Stiffness(k);
     }
     Verdict::Sound
+}
+
+// Whether a job allows a period after the period `before`; for the crates above, which have one.
+pub fn allowed(j: Job, before: Seconds, t: Seconds) -> bool
+    requires { ⌜ 1 ≤ before .0 ⌝ }
+    ensures { λ r. ⌜ r ≡ allows j before t ⌝ }
+{
+    if t.0 < j.lo.0 {
+        return false;
+    }
+    if j.hi.0 < t.0 {
+        return false;
+    }
+    t.0 % before.0 == 0
 }

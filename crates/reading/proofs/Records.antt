@@ -10,10 +10,10 @@ use lib.ListN.{length, getD, take, drop, set, replicate, length-map}
 use lib.Seq.{drop-drop, set-at, append-snoc}
 use Rattle.model.specs.declared.Job.{Job}
 use Rattle.model.specs.declared.Verdict.the-variants.{Sound}
-use Rattle.model.specs.Model.{noJob, orElse, firstRefused}
+use Rattle.model.specs.Model.{noJob, orElse, firstRefused, padded}
 use Rattle.codec.specs.Packing.{bits, pack, unpack, recut}
 use Rattle.codec.specs.Layout.{jobWidths, byteWidths}
-use Rattle.reading.specs.Reading.{headerOf, editionOf, countOf, recordsIn, jobOf, judgeRecord, eightJobs}
+use Rattle.reading.specs.Reading.{headerOf, editionOf, countOf, recordsIn, jobOf, judgeRecord}
 use Rattle.reading.specs.Fields.{fieldsAt, recordOf, judgeCut}
 
 -- the two fields of the first byte
@@ -85,6 +85,5 @@ job-read bytes k h =
     ∙ ap (λ (l : List Job). l ++ replicate (8 - (k + 1)) noJob) grown
     ∙ ap (λ (n : ℕ). map jobOf (recordsIn n (drop 1 bytes)) ++ replicate (8 - (k + 1)) noJob) (sym (add-one k))
 
-pub eight-read : (bytes : List ℕ) (n : ℕ) → eightJobs (map jobOf (recordsIn n (drop 1 bytes))) ≡ jobsRead bytes n
-unfolding eightJobs
+pub eight-read : (bytes : List ℕ) (n : ℕ) → padded noJob (map jobOf (recordsIn n (drop 1 bytes))) ≡ jobsRead bytes n
 eight-read bytes n = ap (λ (k : ℕ). map jobOf (recordsIn n (drop 1 bytes)) ++ replicate (8 - k) noJob) (length-map (recordsIn n (drop 1 bytes)) jobOf ∙ length-records n (drop 1 bytes))

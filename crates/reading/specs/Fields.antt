@@ -8,11 +8,11 @@ use lib.Dec.{eqb}
 use Rattle.model.specs.declared.Profile.{Profile}
 use Rattle.model.specs.declared.Verdict.{Verdict}
 use Rattle.model.specs.declared.Verdict.the-variants.{Sound, Spare}
-use Rattle.model.specs.Model.{refuseIf, orElse, judgeIntervalAndStiffness}
+use Rattle.model.specs.Model.{refuseIf, orElse, judgeIntervalAndStiffness, padded, noJob}
 use Rattle.codec.specs.Packing.{recut}
 use Rattle.codec.specs.Layout.{jobWidths, byteWidths}
 use Rattle.reading.specs.declared.Record.{Record}
-use Rattle.reading.specs.Reading.{jobOf, spareOf, recordsIn, eightJobs}
+use Rattle.reading.specs.Reading.{jobOf, spareOf, recordsIn}
 
 -- A record from its fields.
 abbrev pub recordOf : List ℕ → Record
@@ -28,4 +28,4 @@ judgeCut r k = orElse (judgeIntervalAndStiffness (r .job) k) (refuseIf (not (eqb
 
 -- The values of n records.
 abbrev pub profileOf : List ℕ → ℕ → Profile
-profileOf bytes n = record { n = n; jobs = eightJobs (map jobOf (recordsIn n (drop 1 bytes))) }
+profileOf bytes n = record { n = n; jobs = padded noJob (map jobOf (recordsIn n (drop 1 bytes))) }

@@ -10,7 +10,7 @@ use Rattle.model.specs.declared.Job.{Job}
 use Rattle.model.specs.declared.Profile.{Profile}
 use Rattle.model.specs.declared.Verdict.{Verdict}
 use Rattle.model.specs.declared.Verdict.the-variants.{Sound, NoBytes, Edition, JobCount, Length, Spare}
-use Rattle.model.specs.Model.{seconds, noJob, refuseIf, orElse, ifSound, firstRefused, judgeIntervalAndStiffness}
+use Rattle.model.specs.Model.{seconds, noJob, refuseIf, orElse, ifSound, firstRefused, judgeIntervalAndStiffness, padded}
 use Rattle.codec.specs.Packing.{recut}
 use Rattle.codec.specs.Layout.{headerWidths, jobWidths, byteWidths, profileLength}
 use Rattle.reading.specs.declared.Reading.{Reading}
@@ -56,16 +56,12 @@ judgeHeader bytes =
 unfoldable pub verdictOfBytes : List ℕ → Verdict
 verdictOfBytes bytes = orElse (judgeHeader bytes) (firstRefused judgeRecord 0 (recordsOf bytes))
 
--- Eight jobs: those of a list, and zeros beyond them.
-unfoldable pub eightJobs : List Job → List Job
-eightJobs js = js ++ replicate (8 - length js) noJob
-
 -- The values that bytes stand for.
 abbrev pub valuesOf : List ℕ → Profile
-valuesOf bytes = record { n = countOf bytes; jobs = eightJobs (map jobOf (recordsOf bytes)) }
+valuesOf bytes = record { n = countOf bytes; jobs = padded noJob (map jobOf (recordsOf bytes)) }
 
 abbrev pub noProfile : Profile
-noProfile = record { n = 0; jobs = eightJobs [] }
+noProfile = record { n = 0; jobs = padded noJob [] }
 
 -- What `read_profile` may answer to these bytes.
 pub record Reads (bytes : List ℕ) (r : Reading) : Type 0 where

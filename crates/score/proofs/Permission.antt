@@ -4,35 +4,31 @@ use mathlib.Core.Path.{_≡_, refl, sym, _∙_, ap, ap₂, subst}
 use mathlib.Core.List.{List, [], _∷_}
 use mathlib.Core.Bool.{Bool, true, false, not}
 use mathlib.Core.Logic.{_⊎_, inl, inr}
-use lib.Dec.{eqb, ltb}
-use Prim.Native.Nat.{ℕ, zero, suc, _+_, _-_, _%_, _≤_, _<_}
+use Prim.Native.Nat.{ℕ, zero, suc, _+_, _-_, _≤_, _<_}
 use native.Mathlib.Nat.{zero-add, add-zero, suc-ne-zero, suc-inj, not-suc-le-zero, le-of-suc-le-suc}
 use native.Mathlib.Omega.{arith}
 use lib.ListN.{length, getD}
-use borrow.Author.Tests.{ltb-false, eqb-true, eqb-false, not-false, le-ltb, eq-eqb}
+use borrow.Author.Tests.{eqb-false, not-false}
 use Rattle.model.specs.declared.Seconds.{Seconds}
 use Rattle.model.specs.declared.Job.{Job}
 use Rattle.model.specs.declared.Profile.{Profile}
 use Rattle.model.specs.declared.Verdict.{Verdict}
 use Rattle.model.specs.declared.Verdict.the-variants.{Sound, Periods}
-use Rattle.model.specs.Model.{seconds, noJob, entries, jobsOf, periodsOf, Allowed, PermittedAfter, Permitted, refuseIf, orElse, numberOf}
+use Rattle.model.specs.Model.{seconds, noJob, entries, jobsOf, periodsOf, Allowed, allows, PermittedAfter, Permitted, refuseIf, orElse, numberOf}
 use Rattle.model.specs.Valid.{ValidJob, Valid}
 use Rattle.model.proofs.Entries.{entries-step, entries-end}
+use Rattle.model.proofs.Allowing.{allowed, allowed-back}
 use Rattle.model.proofs.Validity.{job-valid-at}
 use Rattle.model.proofs.Verdicts.{test-passed, both-sound, sound-passes}
 use Rattle.score.specs.Scoring.{judgePeriod, firstUnpermitted}
 
 pub period-allowed : (j : Job) (before t : Seconds) (k : ℕ) → judgePeriod j before t k ≡ Sound → Allowed j before t
 unfolding judgePeriod
-period-allowed j before t k e =
-    let a = test-passed _ _ _ tt e in
-    let b = test-passed _ _ _ tt (a .1) in
-    let d = test-passed _ _ _ tt (b .1) in
-    record { above = ltb-false _ _ (a .0); below = ltb-false _ _ (b .0); multiple = eqb-true _ _ (not-false _ (d .0)) }
+period-allowed j before t k e = allowed j before t (not-false _ (test-passed _ _ _ tt e .0))
 
 allowed-sound : (j : Job) (before t : Seconds) (k : ℕ) → Allowed j before t → judgePeriod j before t k ≡ Sound
 unfolding judgePeriod refuseIf
-allowed-sound j before t k a = simp (le-ltb (t .0) (j .lo .0) (a .above), le-ltb (j .hi .0) (t .0) (a .below), eq-eqb _ 0 (a .multiple))
+allowed-sound j before t k a = simp (allowed-back j before t a)
 
 -- no period is refused: all are permitted
 pub sound-permitted : (k : ℕ) (before : Seconds) (js : List Job) (ts : List Seconds) → length js ≡ length ts → firstUnpermitted k before js ts ≡ Sound → PermittedAfter before js ts
@@ -60,13 +56,11 @@ pub data FirstOut : ℕ → Seconds → List Job → List Seconds → Verdict �
 
 period-cases : (j : Job) (before t : Seconds) (k : ℕ) → (judgePeriod j before t k ≡ Sound) ⊎ (judgePeriod j before t k ≡ Periods k)
 unfolding judgePeriod refuseIf
-period-cases j before t k = go (ltb (t .0) (j .lo .0)) (ltb (j .hi .0) (t .0)) (not (eqb (t .0 % before .0) 0))
+period-cases j before t k = go (not (allows j before t))
   where
-    go : (a b d : Bool) → (refuseIf a (Periods k) (refuseIf b (Periods k) (refuseIf d (Periods k) Sound)) ≡ Sound) ⊎ (refuseIf a (Periods k) (refuseIf b (Periods k) (refuseIf d (Periods k) Sound)) ≡ Periods k)
-    go true b d = inr refl
-    go false true d = inr refl
-    go false false true = inr refl
-    go false false false = inl refl
+    go : (t : Bool) → (refuseIf t (Periods k) Sound ≡ Sound) ⊎ (refuseIf t (Periods k) Sound ≡ Periods k)
+    go true = inr refl
+    go false = inl refl
 
 refused-not-allowed : (j : Job) (before t : Seconds) (k : ℕ) → judgePeriod j before t k ≡ Periods k → Allowed j before t → ⊥
 refused-not-allowed j before t k e a = eqb-false 0 13 refl (ap numberOf (sym (allowed-sound j before t k a) ∙ e))

@@ -3,21 +3,18 @@
 use mathlib.Core.Path.{_≡_}
 use mathlib.Core.List.{List, [], _∷_}
 use mathlib.Core.Bool.{not}
-use Prim.Native.Nat.{ℕ, _+_, _%_}
-use lib.Dec.{eqb, ltb}
+use Prim.Native.Nat.{ℕ, _+_}
 use Rattle.model.specs.declared.Seconds.{Seconds}
 use Rattle.model.specs.declared.Job.{Job}
 use Rattle.model.specs.declared.Profile.{Profile}
 use Rattle.model.specs.declared.Verdict.{Verdict}
 use Rattle.model.specs.declared.Verdict.the-variants.{Sound, Periods}
-use Rattle.model.specs.Model.{seconds, pagesPerHour, jobsOf, periodsOf, need, loss, refuseIf, orElse, ifSound, verdictOf}
+use Rattle.model.specs.Model.{seconds, pagesPerHour, jobsOf, periodsOf, allows, need, loss, refuseIf, orElse, ifSound, verdictOf}
 use Rattle.score.specs.declared.Scored.{Scored}
 
 -- 13 for the job numbered k: its period is outside its interval, or no multiple of the one before.
 unfoldable pub judgePeriod : Job → Seconds → Seconds → ℕ → Verdict
-judgePeriod j before t k =
-    refuseIf (ltb (t .0) (j .lo .0)) (Periods k)
-    (refuseIf (ltb (j .hi .0) (t .0)) (Periods k) (refuseIf (not (eqb (t .0 % before .0) 0)) (Periods k) Sound))
+judgePeriod j before t k = refuseIf (not (allows j before t)) (Periods k) Sound
 
 -- 13 for the first such job; the first of these is numbered k + 1.
 unfoldable pub firstUnpermitted : ℕ → Seconds → List Job → List Seconds → Verdict

@@ -73,13 +73,7 @@ fn judge_period(j: Job, before: Seconds, t: Seconds, k: u32) -> Verdict
     requires { ⌜ 1 ≤ before .0 ⌝ }
     ensures { λ r. ⌜ r ≡ judgePeriod j before t k ⌝ }
 {
-    if t.0 < j.lo.0 {
-        return Verdict::Periods(k);
-    }
-    if j.hi.0 < t.0 {
-        return Verdict::Periods(k);
-    }
-    if t.0 % before.0 != 0 {
+    if !model::allowed(j, before, t) {
         return Verdict::Periods(k);
     }
     Verdict::Sound

@@ -36,10 +36,6 @@ needAt p bytes k = need (jobsOf p) (periodsOf p (periodsAt bytes k))
 abbrev pub lossAt : Profile → List ℕ → ℕ → ℕ
 lossAt p bytes k = loss (jobsOf p) (periodsOf p (periodsAt bytes k))
 
--- Whether a job allows a period after the period `before`: in its interval, and a whole multiple (Quantities).
-unfoldable pub allows : Job → Seconds → Seconds → Bool
-allows j before t = not (ltb (t .0) (j .lo .0)) && (not (ltb (j .hi .0) (t .0)) && eqb (t .0 % before .0) 0)
-
 -- Whether row k, of this start and loss, may follow one of that start and loss; the first follows none (The table).
 unfoldable pub follows : ℕ → PagesPerHour → ℕ → PagesPerHour → ℕ → Bool
 follows k startBefore lossBefore start loss = eqb k 0 || (ltb (startBefore .0) (start .0) && ltb loss lossBefore)

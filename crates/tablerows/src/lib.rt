@@ -12,7 +12,7 @@ ghost use Rattle.codec.specs.Rows.{tableWidths};
 ghost use Rattle.model.specs.Model.{cost, rate, jobLoss};
 ghost use Rattle.model.specs.Valid.{ValidJob};
 ghost use Rattle.walk.specs.Steps.{NeedFits};
-ghost use Rattle.tablerows.specs.Table.{rowsIn, startAt, allows, follows};
+ghost use Rattle.tablerows.specs.Table.{rowsIn, startAt, follows};
 ghost use Rattle.tablerows.specs.Cut.{rowOf, rowAt, zerosFrom};
 
 // A table row's start and its eight periods.
@@ -71,20 +71,6 @@ pub fn cut_row(high: u64, low: u64) -> TableRow
             Seconds(t8 as u32),
         ],
     }
-}
-
-// Whether a job allows a period after the period `before`.
-pub fn allowed(j: Job, before: Seconds, t: Seconds) -> bool
-    requires { ⌜ 1 ≤ before .0 ⌝ }
-    ensures { λ r. ⌜ r ≡ allows j before t ⌝ }
-{
-    if t.0 < j.lo.0 {
-        return false;
-    }
-    if j.hi.0 < t.0 {
-        return false;
-    }
-    t.0 % before.0 == 0
 }
 
 // The pages that jobs write in t seconds, this job with them, where those before it have `written` so many in `before`.

@@ -9,7 +9,7 @@ use Rattle.model.specs.declared.Verdict.the-variants.{Sound, Room}
 use Rattle.model.specs.Model.{seconds, noJob, entries, refuseIf, orElse, firstRefused, judgeIntervalAndStiffness, judgeJob, verdictOf}
 use Rattle.codec.specs.Packing.{bits, pack, unpack, recut}
 use Rattle.codec.specs.Layout.{recordBytes, profileBytes}
-use Rattle.reading.specs.Reading.{headerOf, recordsIn, judgeRecord, judgeHeader, verdictOfBytes, eightJobs, valuesOf}
+use Rattle.reading.specs.Reading.{headerOf, recordsIn, judgeRecord, judgeHeader, verdictOfBytes, valuesOf}
 use Rattle.writing.specs.Writing.{writeVerdict}
 
 job : ℕ → ℕ → ℕ → ℕ → ℕ → Job
@@ -27,7 +27,7 @@ unfolding verdictOfBytes judgeHeader headerOf recut pack unpack bits firstRefuse
 accepted = refl
 
 read : valuesOf bytesA ≡ withBeyond noJob
-unfolding headerOf recut pack unpack bits recordsIn eightJobs bytesA withBeyond job
+unfolding headerOf recut pack unpack bits recordsIn bytesA withBeyond job
 read = refl
 
 written : (j : Job) → profileBytes (withBeyond j) ≡ bytesA

@@ -13,7 +13,7 @@ use Rattle.model.specs.declared.Profile.{Profile}
 use Rattle.model.specs.declared.Counted.{Counted}
 use Rattle.model.specs.declared.Verdict.{Verdict}
 use Rattle.model.specs.declared.Verdict.the-variants.{Sound}
-use Rattle.model.specs.Model.{noJob, entries, jobsOf, refuseIf, ifSound, firstRefused, judgeIntervalAndStiffness, verdictOf}
+use Rattle.model.specs.Model.{noJob, entries, jobsOf, refuseIf, ifSound, firstRefused, judgeIntervalAndStiffness, verdictOf, padded}
 use Rattle.model.specs.Valid.{ValidJob, ValidJobs, Valid}
 use Rattle.model.proofs.Entries.{length-entries, entries-front}
 use Rattle.model.proofs.Validity.{in-range, in-range-sound, sound-valid, valid-sound}
@@ -23,7 +23,7 @@ use Rattle.codec.specs.Layout.{headerWidths, jobWidths, byteWidths, profileLeng
 use Rattle.codec.proofs.Bytes.{Bytes, within-split}
 use Rattle.codec.proofs.Packing.{Within, recut-back, recut-within, length-recut}
 use Rattle.reading.specs.declared.Reading.{Reading}
-use Rattle.reading.specs.Reading.{headerOf, editionOf, countOf, recordsIn, recordsOf, jobOf, spareOf, judgeRecord, judgeHeader, verdictOfBytes, eightJobs, valuesOf, noProfile, Reads}
+use Rattle.reading.specs.Reading.{headerOf, editionOf, countOf, recordsIn, recordsOf, jobOf, spareOf, judgeRecord, judgeHeader, verdictOfBytes, valuesOf, noProfile, Reads}
 use Rattle.reading.proofs.Headers.{SoundHeader, sound-header}
 use Rattle.reading.proofs.Records.{header-fields, edition-is, count-is, length-records}
 use Rattle.writing.specs.Writing.{writeVerdict, Writes}
@@ -62,7 +62,7 @@ all-fields-sound (j ∷ js) k v = sound-passes {v = judgeRecord (fieldsOf j) (k 
 
 -- a profile without what stands beyond its n jobs
 abbrev pub kept : Profile → Profile
-kept p = record { n = p .n; jobs = eightJobs (jobsOf p) }
+kept p = record { n = p .n; jobs = padded noJob (jobsOf p) }
 
 -- the bytes of a valid profile are accepted, and stand for its values
 module _ (p : Profile) (v : Valid p) where
@@ -99,7 +99,7 @@ module _ (p : Profile) (v : Valid p) where
   bytes-accepted = sound-passes {v = judgeHeader (profileBytes p)} _ refl header-sound ∙ ap (firstRefused judgeRecord 0) all-records-back ∙ all-fields-sound (jobsOf p) 0 (v .jobs)
 
   values-back : valuesOf (profileBytes p) ≡ kept p
-  values-back = λ i. record { n = count-back i; jobs = eightJobs ((ap (map jobOf) all-records-back ∙ jobs-back (jobsOf p)) i) }
+  values-back = λ i. record { n = count-back i; jobs = padded noJob ((ap (map jobOf) all-records-back ∙ jobs-back (jobsOf p)) i) }
 
 -- what was written reads back as the same values, with zeros beyond n
 pub written-reads-back : (p : Profile) (old : List ℕ) {w : Counted} {new : List ℕ} {r : Reading} → Writes p old w new → w .verdict ≡ Sound → Reads (take (w .count) new) r → (r .verdict ≡ Sound) × (r .profile ≡ kept p)
@@ -180,11 +180,10 @@ module _ (bytes : List ℕ) (h : Bytes bytes) (sound : verdictOfBytes bytes ≡ 
   kept-records = records-kept (countOf bytes) (drop 1 bytes) 0 (length-drop 1 bytes ∙ omega (arith, header .size)) (parts .1) (both .1)
 
   jobs-read : jobsOf (valuesOf bytes) ≡ map jobOf (recordsOf bytes)
-  unfolding eightJobs
   jobs-read =
       let js = map jobOf (recordsOf bytes) in
       let size : length js ≡ countOf bytes = length-map (recordsOf bytes) jobOf ∙ length-records (countOf bytes) (drop 1 bytes) in
-      ap (entries noJob (eightJobs js) 0) (sym size) ∙ entries-front noJob js _
+      ap (entries noJob (padded noJob js) 0) (sym size) ∙ entries-front noJob js _
 
   values-valid : Valid (valuesOf bytes)
   values-valid = record { n-from = header .n-from; n-to = header .n-to; jobs = subst ValidJobs (sym jobs-read) (kept-records .0) }

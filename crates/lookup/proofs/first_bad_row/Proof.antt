@@ -7,11 +7,10 @@ use native.Mathlib.Omega.{arith}
 use lib.ListN.{getD}
 use borrow.Author.Needs.{needs}
 use borrow.Author.Tests.{not-true, not-false}
-use Rattle.model.specs.Model.{seconds, pagesPerHour, noJob}
+use Rattle.model.specs.Model.{seconds, pagesPerHour, noJob, allows}
 use Rattle.model.specs.Valid.{Valid}
 use Rattle.model.proofs.Validity.{job-valid-at}
-use Rattle.tablerows.specs.Table.{allows}
-use Rattle.lookup.proofs.Places.{allowed}
+use Rattle.model.proofs.Allowing.{allowed}
 use Rattle.lookup.proofs.Turns.{RowsLeft, PlacesLeft, Scanned, first-rows, first-places, pages-fit, loss-fits, place-off, next-place, zeros-decide, scanned-row, no-more, place-fails, start-fails, order-fails, next-row}
 use Rattle.lookup.proofs.first_bad_row.Statement.{statement}
 use Rattle.lookup.proofs.first_bad_row.Tie as tie

@@ -1,6 +1,5 @@
 -- `reading::no_profile` meets its contract: eight times the job of zeros.
 -- Assumes nothing.
-use Rattle.reading.specs.Reading.{eightJobs}
 use borrow.Author.Needs.{needs}
 use Rattle.reading.proofs.no_profile.Statement.{statement}
 use Rattle.reading.proofs.no_profile.Tie as tie
@@ -9,7 +8,6 @@ no-job-requires : tie.Need-no-job-requires
 no-job-requires c κs = search needs
 
 returns : tie.Need-returns
-unfolding eightJobs
 returns c = simp (c .no-job .ensures)
 
 pub no-profile-spec : {M : Type 1} → statement M

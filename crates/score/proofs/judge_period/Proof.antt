@@ -1,30 +1,23 @@
--- `score::judge_period` meets its contract: each test that was passed is a step of the definition.
+-- `score::judge_period` meets its contract: it refuses what the test of a period does.
 -- Assumes nothing.
-use borrow.Author.Tests.{lt-ltb, le-ltb, eq-eqb, ne-eqb}
+use mathlib.Core.Path.{sym, _∙_}
+use borrow.Author.Needs.{needs}
+use borrow.Author.Tests.{not-true, not-false}
 use Rattle.model.specs.Model.{refuseIf}
 use Rattle.score.specs.Scoring.{judgePeriod}
-use borrow.Author.Needs.{needs}
 use Rattle.score.proofs.judge_period.Statement.{statement}
 use Rattle.score.proofs.judge_period.Tie as tie
 
+allowed-requires : tie.Need-allowed-requires
+allowed-requires c κs = search needs
+
 returns : tie.Need-returns
 unfolding judgePeriod refuseIf
-returns c = search (needs, lt-ltb, le-ltb, eq-eqb, ne-eqb)
+returns c = simp (sym (c .before .allowed .ensures) ∙ not-true _ (c .if1 .taken))
 
 returns-2 : tie.Need-returns-2
 unfolding judgePeriod refuseIf
-returns-2 c = search (needs, lt-ltb, le-ltb, eq-eqb, ne-eqb)
-
-rem-if3 : tie.Need-rem-if3
-rem-if3 c = search needs
-
-returns-3 : tie.Need-returns-3
-unfolding judgePeriod refuseIf
-returns-3 c = search (needs, lt-ltb, le-ltb, eq-eqb, ne-eqb)
-
-returns-4 : tie.Need-returns-4
-unfolding judgePeriod refuseIf
-returns-4 c = search (needs, lt-ltb, le-ltb, eq-eqb, ne-eqb)
+returns-2 c = simp (sym (c .before .allowed .ensures) ∙ not-false _ (c .if1 .left))
 
 pub judge-period-spec : {M : Type 1} → statement M
-judge-period-spec = tie.close (tie.spec returns returns-2 rem-if3 returns-3 returns-4)
+judge-period-spec = tie.close (tie.spec allowed-requires returns returns-2)

@@ -1,10 +1,10 @@
--- `tablerows::allowed` meets its contract: each `return` is one case of `allows`.
+-- `model::allowed` meets its contract: each `return` is one case of `allows`.
 -- Assumes nothing.
 use borrow.Author.Tests.{lt-ltb, le-ltb}
-use Rattle.tablerows.specs.Table.{allows}
+use Rattle.model.specs.Model.{allows}
 use borrow.Author.Needs.{needs}
-use Rattle.tablerows.proofs.allowed.Statement.{statement}
-use Rattle.tablerows.proofs.allowed.Tie as tie
+use Rattle.model.proofs.allowed.Statement.{statement}
+use Rattle.model.proofs.allowed.Tie as tie
 
 returns : tie.Need-returns
 unfolding allows
