@@ -1,7 +1,7 @@
 -- Jobs and profiles within their bounds (document 01, Quantities): what a sound verdict means, as proofs/Validity.antt shows. Inner
 -- functions ask for it; no contract of an entry point cites it. Assumes nothing.
 use mathlib.Core.List.{List, [], _∷_}
-use Prim.Native.Nat.{ℕ, _≤_}
+use Prim.Native.Nat.{_≤_}
 use Rattle.model.specs.declared.Job.{Job}
 use Rattle.model.specs.declared.Profile.{Profile}
 use Rattle.model.specs.Model.{jobsOf}

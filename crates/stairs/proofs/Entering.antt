@@ -3,17 +3,16 @@
 use mathlib.Core.Path.{_≡_, refl, sym, _∙_, ap, ap₂, subst}
 use mathlib.Core.List.{List, [], _∷_, _++_, append-nil}
 use mathlib.Core.Bool.{Bool, true, false, and-false, or-true}
-use Prim.Native.Nat.{ℕ, zero, suc, _+_, _*_, _-_, _≤_, _<_, zero-le}
+use Prim.Native.Nat.{ℕ, zero, suc, _+_, _-_, _≤_, _<_, zero-le}
 use native.Mathlib.Omega.{arith}
 use native.Mathlib.Decide.{decLt, ℕ-discrete}
 use lib.ListN.{getD}
 use borrow.Author.Tests.{le-leb, lt-leb, lt-ltb, le-ltb}
 use Rattle.model.specs.declared.Seconds.{Seconds}
 use Rattle.model.specs.declared.PagesPerHour.{PagesPerHour}
-use Rattle.model.specs.Model.{pagesPerHour}
 use Rattle.walk.specs.Steps.{needAt, periodsIn}
-use Rattle.stairs.specs.Stairs.{Stair, stair, Stairs, covered, losingLess, needingLess, among, atMost, enter}
-use Rattle.stairs.specs.Rows.{most, needIn, lossIn, rowAt, rowsFrom, stairsIn, stairsOf, Rises, LosesLess, Covers, NeedsLess, Place, Standing, Puts, Enters}
+use Rattle.stairs.specs.Stairs.{Stair, stair, covered, losingLess, needingLess, among, atMost, enter}
+use Rattle.stairs.specs.Rows.{most, needIn, lossIn, rowAt, rowsFrom, stairsOf, Rises, LosesLess, Covers, NeedsLess, Place, Standing, Puts, Enters}
 use Rattle.stairs.proofs.Updates.{enter-over, enter-bound, enter-covered, enter-new}
 use Rattle.stairs.proofs.Rows.{rows-split}
 

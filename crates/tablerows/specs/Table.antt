@@ -1,13 +1,12 @@
 -- A lent table's rows, their fields and the tests of one row (document 01, The table). Rows are counted from 0 here; a refusal
 -- names them from 1. Cited by public contracts, through specs/Lookup.antt of crate lookup. Assumes nothing.
 use mathlib.Core.List.{List, map}
-use mathlib.Core.Bool.{Bool, not, _&&_, _||_}
-use Prim.Native.Nat.{ℕ, _*_, _/_, _%_}
+use mathlib.Core.Bool.{Bool, _&&_, _||_}
+use Prim.Native.Nat.{ℕ, _*_, _/_}
 use lib.ListN.{length, getD, take, drop}
 use lib.Dec.{eqb, ltb}
 use Rattle.model.specs.declared.Seconds.{Seconds}
 use Rattle.model.specs.declared.PagesPerHour.{PagesPerHour}
-use Rattle.model.specs.declared.Job.{Job}
 use Rattle.model.specs.declared.Profile.{Profile}
 use Rattle.model.specs.Model.{seconds, pagesPerHour, jobsOf, periodsOf, need, loss}
 use Rattle.codec.specs.Packing.{recut}

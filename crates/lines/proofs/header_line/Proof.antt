@@ -1,8 +1,7 @@
 -- `lines::header_line` meets its contract: the words and the numbers, one after the other.
 -- Assumes nothing.
 use Prim.Native.Nat.{_≤_}
-use lib.ListN.{length}
-use Rattle.lines.specs.Lines.{spaced, headerLine}
+use Rattle.lines.specs.Lines.{headerLine}
 use Rattle.lines.proofs.Decimals.{room-for, number-put}
 use Rattle.lines.proofs.Putting.{put-then}
 use native.Mathlib.Omega.{arith}

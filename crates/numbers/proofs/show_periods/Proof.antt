@@ -1,7 +1,6 @@
 -- `numbers::show_periods` is safe and ends: each of the eight periods in turn.
 -- Assumes nothing.
 use Prim.Native.Nat.{_-_, _≤_}
-use native.Mathlib.Omega.{arith}
 use borrow.Author.Needs.{needs}
 use Rattle.numbers.proofs.show_periods.Statement.{statement}
 use Rattle.numbers.proofs.show_periods.Tie as tie

@@ -1,7 +1,6 @@
 -- `numbers::show_profile` is safe and ends: each of the eight jobs in turn.
 -- Assumes nothing.
 use Prim.Native.Nat.{_-_, _≤_}
-use native.Mathlib.Omega.{arith}
 use borrow.Author.Needs.{needs}
 use Rattle.numbers.proofs.show_profile.Statement.{statement}
 use Rattle.numbers.proofs.show_profile.Tie as tie

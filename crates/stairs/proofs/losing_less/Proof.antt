@@ -1,7 +1,7 @@
 -- `stairs::losing_less` meets its contract: the row before `from` loses less, and the row at `to` does not.
 -- Assumes nothing.
 use Prim.Native.Nat.{ℕ, _+_, _-_, _≤_, _<_}
-use Rattle.stairs.specs.Rows.{lossIn, LosesLess}
+use Rattle.stairs.specs.Rows.{lossIn}
 use mathlib.Core.Path.{_≡_}
 use mathlib.Core.List.{List}
 use borrow.Author.Needs.{needs}

@@ -1,6 +1,6 @@
 -- `stairs::may_enter` meets its contract: where it says no, the need floor, a row or an interval out of reach shows that nothing enters.
 -- Assumes nothing.
-use mathlib.Core.Path.{_≡_, ap}
+use mathlib.Core.Path.{ap}
 use native.Mathlib.Omega.{arith}
 use Rattle.model.specs.declared.PagesPerHour.{PagesPerHour}
 use Rattle.walk.proofs.Cuts.{ready-need, ready-ends, need-floor-to}

@@ -1,7 +1,7 @@
 -- `stairs::needing_less` meets its contract: no row passed needs less.
 -- Assumes nothing.
 use Prim.Native.Nat.{ℕ, _-_, _≤_, _<_}
-use Rattle.stairs.specs.Rows.{needIn, NeedsLess}
+use Rattle.stairs.specs.Rows.{needIn}
 use borrow.Author.Count.{below-more}
 use borrow.Author.Needs.{needs}
 use native.Mathlib.Omega.{arith}
