@@ -1,5 +1,6 @@
-/* Measures the zone lister against one of the same form in C, on the worst profile and on profile A many times, in one run,
- * on a stack of 256 KB. Ends with status 1 where the rows differ or the bound is broken. */
+/* Measures the zone lister against one of the same form in C, on the worst profile and on profile A many times, in one run, and
+ * then lists the worst profile on a stack of 256 KB. That thread comes last: beside a second thread an emulator may have to keep
+ * the order of every access, which takes longer than the listing. Ends with status 1 where rows differ or the bound is broken. */
 #define _POSIX_C_SOURCE 200112L
 #include <inttypes.h>
 #include <pthread.h>
@@ -48,27 +49,34 @@ static void measure(const char *name, uint32_t n, const uint32_t jobs[40], int t
     free(want);
 }
 
-static void *all(void *unused)
+static uint32_t worst[40];
+
+/* All rows of the worst profile, into room for them. */
+static void *list_worst(void *room)
+{
+    size_t rows = (size_t)CHAROPLETH_DETAIL(charopleth_zones(8, worst, 0, 0));
+    if (charopleth_zones(8, worst, room, 16 * rows) != rows)
+        failed = 1;
+    return room;
+}
+
+int main(void)
 {
     static const uint32_t a[40] = {20, 25, 9, 1, 1, 43, 74, 18, 2, 1, 45, 100, 36, 4, 1};
-    uint32_t worst[40];
     for (int i = 0; i < 8; i++) {
         uint32_t job[5] = {1, 3600, 1, 0, 1};
         memcpy(worst + 5 * i, job, sizeof job);
     }
     measure("zones of 8 jobs [1,3600]", 8, worst, 1);
     measure("zones of profile A", 3, a, 20000);
-    return unused;
-}
-
-int main(void)
-{
     pthread_t thread;
     pthread_attr_t small;
-    if (pthread_attr_init(&small) || pthread_attr_setstacksize(&small, 262144) || pthread_create(&thread, &small, all, 0) || pthread_join(thread, 0)) {
+    void *room = malloc(16 * (size_t)CHAROPLETH_DETAIL(charopleth_zones(8, worst, 0, 0)));
+    if (!room || pthread_attr_init(&small) || pthread_attr_setstacksize(&small, 262144) || pthread_create(&thread, &small, list_worst, room) || pthread_join(thread, 0)) {
         printf("no thread with a stack of 256 KB\n");
         return 2;
     }
-    printf(failed ? "bench: a bound is broken\n" : "bench: within %.1f x the lister in C, in a stack of 256 KB\n", most_of_lister);
+    free(room);
+    printf(failed ? "bench: a bound is broken\n" : "bench: within %.1f x the lister in C, and in a stack of 256 KB\n", most_of_lister);
     return failed;
 }
