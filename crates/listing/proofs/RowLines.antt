@@ -15,9 +15,10 @@ use Rattle.codec.specs.declared.RowWords.{RowWords}
 use Rattle.codec.specs.Packing.{unpack}
 use Rattle.codec.specs.RowWords.{wordsAt}
 use Rattle.codec.specs.Rows.{tableWidths}
+use Rattle.sums.proofs.Scorable.{scorable}
 use Rattle.score.specs.declared.Scored.{Scored}
 use Rattle.score.specs.Scoring.{scoreVerdict, Scores}
-use Rattle.score.proofs.Permission.{sound-permitted, scorable}
+use Rattle.score.proofs.Permission.{sound-permitted}
 use Rattle.tablerows.specs.declared.TableRow.{TableRow}
 use Rattle.tablerows.specs.Table.{rowsIn}
 use Rattle.tablerows.specs.Cut.{rowOf, rowAt}

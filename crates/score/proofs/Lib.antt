@@ -1,3 +1,2 @@
 pub mod OneOutcome
 pub mod Permission
-pub mod Sums

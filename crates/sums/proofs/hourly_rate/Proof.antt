@@ -1,4 +1,4 @@
--- `score::hourly_rate` meets its contract: the quotient is the definition's, and no job writes more pages than fit.
+-- `sums::hourly_rate` meets its contract: the quotient is the definition's, and no job writes more pages than fit.
 -- Assumes nothing.
 use Prim.Native.Nat.{ℕ, _*_, _/_}
 use mathlib.Core.Path.{_≡_, ap}
@@ -6,8 +6,8 @@ use Rattle.model.specs.Model.{pagesPerHour, cost, rate}
 use Rattle.model.proofs.Bounds.{rate-bound}
 use native.Mathlib.Omega.{arith}
 use borrow.Author.Needs.{needs}
-use Rattle.score.proofs.hourly_rate.Statement.{statement}
-use Rattle.score.proofs.hourly_rate.Tie as tie
+use Rattle.sums.proofs.hourly_rate.Statement.{statement}
+use Rattle.sums.proofs.hourly_rate.Tie as tie
 
 run-pages-requires : tie.Need-run-pages-requires
 run-pages-requires c κs = search needs

@@ -1,16 +1,16 @@
--- `score::pages_in` meets its contract: the pages so far and those of the jobs still to come are all pages of the span.
+-- `sums::pages_in` meets its contract: the pages so far and those of the jobs still to come are all pages of the span.
 -- Assumes nothing.
 use Prim.Native.Nat.{ℕ, _+_, _*_, _-_, _≤_}
 use mathlib.Core.Path.{_≡_, _∙_, sym, ap, subst}
 use native.Mathlib.Nat.{sub-zero}
 use lib.ListN.{getD}
 use Rattle.model.specs.Model.{seconds, noJob, entries, jobsOf, periodsOf, pagesIn}
-use Rattle.score.proofs.Permission.{Scorable, scorable}
-use Rattle.score.proofs.Sums.{Summed, none-summed, one-summed, next-small, all-summed, pages-step, pages-end}
+use Rattle.sums.proofs.Scorable.{Scorable, scorable}
+use Rattle.sums.proofs.Sums.{Summed, none-summed, one-summed, next-small, all-summed, pages-step, pages-end}
 use native.Mathlib.Omega.{arith}
 use borrow.Author.Needs.{needs}
-use Rattle.score.proofs.pages_in.Statement.{statement}
-use Rattle.score.proofs.pages_in.Tie as tie
+use Rattle.sums.proofs.pages_in.Statement.{statement}
+use Rattle.sums.proofs.pages_in.Tie as tie
 
 abbrev Inv-loop : tie.InvT-loop
 Inv-loop span p periods n sum₀ k₀ sum k = Summed (pagesIn span (jobsOf p) (periodsOf p periods)) (pagesIn span (entries noJob (p .jobs) k (n - k)) (entries (seconds 0) periods k (n - k))) (65534 * span .0) n sum k

@@ -1,4 +1,4 @@
--- `score::need_of` meets its contract: Tn is the last period, and the one division is the definition's.
+-- `sums::need_of` meets its contract: Tn is the last period, and the one division is the definition's.
 -- Assumes nothing.
 use Prim.Native.Nat.{ℕ, _*_, _-_, _≤_}
 use mathlib.Core.Path.{_≡_, _∙_, sym, ap}
@@ -7,12 +7,12 @@ use lib.ListN.{getD}
 use Rattle.model.specs.declared.Seconds.{Seconds}
 use Rattle.model.specs.Model.{seconds, pagesPerHour, noJob, jobsOf, periodsOf, lastOf, pagesIn, roundUp, need}
 use Rattle.model.proofs.Bounds.{need-bound}
-use Rattle.score.proofs.Permission.{Scorable, scorable}
-use Rattle.score.proofs.Sums.{last-period}
+use Rattle.sums.proofs.Scorable.{Scorable, scorable}
+use Rattle.sums.proofs.Sums.{last-period}
 use native.Mathlib.Omega.{arith}
 use borrow.Author.Needs.{needs}
-use Rattle.score.proofs.need_of.Statement.{statement}
-use Rattle.score.proofs.need_of.Tie as tie
+use Rattle.sums.proofs.need_of.Statement.{statement}
+use Rattle.sums.proofs.need_of.Tie as tie
 
 cast-last : tie.Need-cast-last
 cast-last c = search needs

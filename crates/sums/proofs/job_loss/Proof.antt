@@ -1,4 +1,4 @@
--- `score::job_loss` meets its contract: the two rates are the definition's, and the bound on a job's loss keeps every product small.
+-- `sums::job_loss` meets its contract: the two rates are the definition's, and the bound on a job's loss keeps every product small.
 -- Assumes nothing.
 use Prim.Native.Nat.{ℕ, _*_, _-_, _≤_}
 use mathlib.Core.Path.{_≡_, _∙_, ap, ap₂, sym}
@@ -8,8 +8,8 @@ use Rattle.model.specs.Model.{rate, jobLoss}
 use Rattle.model.proofs.Bounds.{mostRate, mostLoss, rate-bound, rate-falls, job-loss-bound, square}
 use native.Mathlib.Omega.{arith}
 use borrow.Author.Needs.{needs}
-use Rattle.score.proofs.job_loss.Statement.{statement}
-use Rattle.score.proofs.job_loss.Tie as tie
+use Rattle.sums.proofs.job_loss.Statement.{statement}
+use Rattle.sums.proofs.job_loss.Tie as tie
 
 hourly-rate-requires : tie.Need-hourly-rate-requires
 hourly-rate-requires c κs = search needs

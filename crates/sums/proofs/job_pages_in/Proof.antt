@@ -1,14 +1,14 @@
--- `score::job_pages_in` meets its contract: the product is the definition's, and a job runs at most once a second.
+-- `sums::job_pages_in` meets its contract: the product is the definition's, and a job runs at most once a second.
 -- Assumes nothing.
 use Prim.Native.Nat.{ℕ, _*_, _/_, _≤_}
 use mathlib.Core.Path.{_≡_, ap}
 use native.Mathlib.Nat.{le-trans, le-of-eq, div-le-self}
 use Rattle.model.specs.Model.{cost}
-use Rattle.score.proofs.Sums.{run-pages-bound}
+use Rattle.sums.proofs.Sums.{run-pages-bound}
 use native.Mathlib.Omega.{arith}
 use borrow.Author.Needs.{needs}
-use Rattle.score.proofs.job_pages_in.Statement.{statement}
-use Rattle.score.proofs.job_pages_in.Tie as tie
+use Rattle.sums.proofs.job_pages_in.Statement.{statement}
+use Rattle.sums.proofs.job_pages_in.Tie as tie
 
 div-runs : tie.Need-div-runs
 div-runs c = search needs

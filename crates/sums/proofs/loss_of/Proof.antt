@@ -1,4 +1,4 @@
--- `score::loss_of` meets its contract: the sum so far and the loss of the jobs still to come are the whole loss.
+-- `sums::loss_of` meets its contract: the sum so far and the loss of the jobs still to come are the whole loss.
 -- Assumes nothing.
 use Prim.Native.Nat.{ℕ, _+_, _-_, _≤_}
 use mathlib.Core.Path.{_∙_, sym, ap}
@@ -6,12 +6,12 @@ use native.Mathlib.Nat.{le-trans, le-of-eq, sub-zero}
 use lib.ListN.{getD}
 use Rattle.model.specs.Model.{seconds, noJob, entries, jobsOf, periodsOf, loss}
 use Rattle.model.proofs.Bounds.{mostLoss, job-loss-bound}
-use Rattle.score.proofs.Permission.{Scorable, scorable}
-use Rattle.score.proofs.Sums.{Summed, none-summed, one-summed, next-small, all-summed, loss-step, loss-end}
+use Rattle.sums.proofs.Scorable.{Scorable, scorable}
+use Rattle.sums.proofs.Sums.{Summed, none-summed, one-summed, next-small, all-summed, loss-step, loss-end}
 use native.Mathlib.Omega.{arith}
 use borrow.Author.Needs.{needs}
-use Rattle.score.proofs.loss_of.Statement.{statement}
-use Rattle.score.proofs.loss_of.Tie as tie
+use Rattle.sums.proofs.loss_of.Statement.{statement}
+use Rattle.sums.proofs.loss_of.Tie as tie
 
 abbrev Inv-loop : tie.InvT-loop
 Inv-loop p periods n sum₀ k₀ sum k = Summed (loss (jobsOf p) (periodsOf p periods)) (loss (entries noJob (p .jobs) k (n - k)) (entries (seconds 0) periods k (n - k))) mostLoss n sum k

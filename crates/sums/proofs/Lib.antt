@@ -1,0 +1,2 @@
+pub mod Scorable
+pub mod Sums
