@@ -16,7 +16,8 @@ use Rattle.zones.specs.Zones.{rowsOf}
 use Rattle.table.specs.Table.{tableBytes}
 use Rattle.table.specs.Descent.{upTo, descent}
 use Rattle.tablerows.specs.Table.{rowFields, follows}
-use Rattle.lookup.specs.Lookup.{placeRight, placesRight, rowRight, firstBad, tableVerdict, lookupVerdict, lastWithin}
+use Rattle.tablecheck.specs.Checks.{placeRight, placesRight, rowRight, firstBad}
+use Rattle.lookup.specs.Lookup.{tableVerdict, lookupVerdict, lastWithin}
 use Rattle.cases.proofs.Cases.{Case, Right, cases}
 use Rattle.cases.proofs.Anew.{choiceFor, scoreFor, counted, roomy, countFor, bytesFor, anew, anew-right}
 

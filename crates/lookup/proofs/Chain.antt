@@ -13,7 +13,8 @@ use Rattle.model.specs.declared.Verdict.the-variants.{Sound, Budget, Row}
 use Rattle.model.specs.Model.{refuseIf}
 use Rattle.model.proofs.Verdicts.{test-passed}
 use Rattle.tablerows.specs.Table.{rowsIn, startAt}
-use Rattle.lookup.specs.Lookup.{firstBad, tableVerdict}
+use Rattle.tablecheck.specs.Checks.{firstBad}
+use Rattle.lookup.specs.Lookup.{tableVerdict}
 
 -- a length that is a positive multiple of 16
 pub record Whole (bytes : List ℕ) : Type 0 where

@@ -3,12 +3,9 @@ pub mod Finding
 pub mod Formed
 pub mod HandedBack
 pub mod InOrder
-pub mod Judging
 pub mod Laid
 pub mod LookedUp
 pub mod OneOutcome
 pub mod OnlyTable
-pub mod Places
 pub mod RowsRead
 pub mod TableFormed
-pub mod Turns

@@ -1,41 +1,20 @@
 -- What looking a budget up answers (document 01, The table and Refusal numbers): the checks as tests, in their order, and the row found.
--- A row's fields and the tests of one row, `allows` and `follows`, stand in crate tablerows, specs/Table.antt. That all these say what
--- specs/Formed.antt does is proved in proofs/Formed and proofs/Finding. Cited by public contracts. Assumes nothing.
+-- The first bad row and the checks of a row stand in crate tablecheck, specs/Checks.antt. That all these say what specs/Formed.antt
+-- does is proved in proofs/Formed and proofs/Finding. Cited by public contracts. Assumes nothing.
 use mathlib.Core.Path.{_≡_}
 use mathlib.Core.List.{List, []}
-use mathlib.Core.Bool.{Bool, true, not, cond, _&&_}
-use Prim.Native.Nat.{ℕ, zero, suc, _+_, _*_, _-_, _%_}
-use lib.ListN.{length, getD, take, drop}
+use mathlib.Core.Bool.{not, cond}
+use Prim.Native.Nat.{ℕ, zero, suc, _+_, _*_, _%_}
+use lib.ListN.{length, take, drop}
 use lib.Dec.{eqb, ltb, leb}
-use Rattle.model.specs.declared.Seconds.{Seconds}
 use Rattle.model.specs.declared.PagesPerHour.{PagesPerHour}
 use Rattle.model.specs.declared.Profile.{Profile}
 use Rattle.model.specs.declared.Counted.{Counted}
 use Rattle.model.specs.declared.Verdict.{Verdict}
 use Rattle.model.specs.declared.Verdict.the-variants.{Sound, Budget, Row}
-use Rattle.model.specs.Model.{seconds, noJob, refuseIf, orElse, ifSound, verdictOf, allows}
-use Rattle.tablerows.specs.Table.{rowsIn, startAt, periodsAt, needAt, lossAt, follows}
-
--- Whether the period at place i of a row is right: its job allows it, or it is 0 beyond n (The table).
-unfoldable pub placeRight : Profile → ℕ → Seconds → Seconds → Bool
-placeRight p i before t = cond (ltb i (p .n)) (allows (getD (p .jobs) i noJob) before t) (eqb (t .0) 0)
-
--- The same of m places from place i on.
-unfoldable pub placesRight : Profile → List Seconds → ℕ → Seconds → ℕ → Bool
-placesRight p ts i before zero = true
-placesRight p ts i before (suc m) = placeRight p i before (getD ts i (seconds 0)) && placesRight p ts (i + 1) (getD ts i (seconds 0)) m
-
--- Whether row k is good by itself and after the one before it (The table).
-unfoldable pub rowRight : Profile → List ℕ → ℕ → Bool
-rowRight p bytes k =
-    placesRight p (periodsAt bytes k) 0 (seconds 1) 8
-    && (eqb (needAt p bytes k .0) (startAt bytes k .0)
-    && follows k (startAt bytes (k - 1)) (lossAt p bytes (k - 1)) (startAt bytes k) (lossAt p bytes k))
-
--- The first bad row of the m rows from row k on, counted from 1; 0 where there is none (Refusal numbers, 12).
-unfoldable pub firstBad : Profile → List ℕ → ℕ → ℕ → ℕ
-firstBad p bytes k zero = 0
-firstBad p bytes k (suc m) = cond (rowRight p bytes k) (firstBad p bytes (k + 1) m) (k + 1)
+use Rattle.model.specs.Model.{refuseIf, orElse, ifSound, verdictOf}
+use Rattle.tablerows.specs.Table.{rowsIn, startAt}
+use Rattle.tablecheck.specs.Checks.{firstBad}
 
 -- 12 for the length, 12 for the first bad row, then 10 with the first row's start (Refusal numbers, order).
 unfoldable pub tableVerdict : Profile → List ℕ → PagesPerHour → Verdict

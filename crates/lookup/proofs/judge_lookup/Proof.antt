@@ -8,7 +8,8 @@ use Rattle.model.specs.declared.Verdict.the-variants.{Budget, Row}
 use Rattle.model.proofs.Validity.{sound-valid}
 use Rattle.model.proofs.Verdicts.{refused-stays, sound-passes}
 use Rattle.tablerows.specs.Table.{rowsIn}
-use Rattle.lookup.specs.Lookup.{firstBad, tableVerdict, lookupVerdict}
+use Rattle.tablecheck.specs.Checks.{firstBad}
+use Rattle.lookup.specs.Lookup.{tableVerdict, lookupVerdict}
 use Rattle.lookup.proofs.Chain.{Whole, no-bytes, part-left, bad-named, below-first, row-there}
 use borrow.Author.Needs.{needs}
 use Rattle.lookup.proofs.judge_lookup.Statement.{statement}

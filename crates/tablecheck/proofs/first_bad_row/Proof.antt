@@ -1,4 +1,4 @@
--- `lookup::first_bad_row` meets its contract: before each turn the verdict is that of the rows, and of a row's places, still to come.
+-- `tablecheck::first_bad_row` meets its contract: before each turn the verdict is that of the rows, and of a row's places, still to come.
 -- Assumes nothing.
 use Prim.Native.Nat.{_-_, zero-le}
 use mathlib.Core.Path.{_≡_, _∙_, sym, ap}
@@ -11,9 +11,9 @@ use Rattle.model.specs.Model.{seconds, pagesPerHour, noJob, allows}
 use Rattle.model.specs.Valid.{Valid}
 use Rattle.model.proofs.Validity.{job-valid-at}
 use Rattle.model.proofs.Allowing.{allowed}
-use Rattle.lookup.proofs.Turns.{RowsLeft, PlacesLeft, Scanned, first-rows, first-places, pages-fit, loss-fits, place-off, next-place, zeros-decide, scanned-row, no-more, place-fails, start-fails, order-fails, next-row}
-use Rattle.lookup.proofs.first_bad_row.Statement.{statement}
-use Rattle.lookup.proofs.first_bad_row.Tie as tie
+use Rattle.tablecheck.proofs.Turns.{RowsLeft, PlacesLeft, Scanned, first-rows, first-places, pages-fit, loss-fits, place-off, next-place, zeros-decide, scanned-row, no-more, place-fails, start-fails, order-fails, next-row}
+use Rattle.tablecheck.proofs.first_bad_row.Statement.{statement}
+use Rattle.tablecheck.proofs.first_bad_row.Tie as tie
 
 abbrev Inv-loop : tie.InvT-loop
 Inv-loop table p n rates rows start-before loss-before k start periods before₀ written₀ lost₀ i₀ before written lost i = PlacesLeft p periods before written lost i

@@ -11,7 +11,7 @@ use Rattle.model.specs.declared.Seconds.{Seconds}
 use Rattle.model.specs.declared.Profile.{Profile}
 use Rattle.model.specs.Model.{seconds}
 use Rattle.tablerows.specs.Table.{startAt, periodsAt, needAt, lossAt, follows}
-use Rattle.lookup.specs.Lookup.{placeRight, placesRight, rowRight, firstBad}
+use Rattle.tablecheck.specs.Checks.{placeRight, placesRight, rowRight, firstBad}
 
 -- the rows from the k-th on, of n
 module _ (p : Profile) (bytes : List ℕ) (k n : ℕ) where

@@ -25,9 +25,9 @@ use Rattle.walk.proofs.Pages.{need-is as need-after}
 use Rattle.tablerows.specs.declared.TableRow.{TableRow}
 use Rattle.tablerows.specs.Table.{startAt, periodsAt, needAt, lossAt, follows}
 use Rattle.tablerows.specs.Cut.{rowAt, zerosFrom}
-use Rattle.lookup.specs.Lookup.{placesRight, rowRight, firstBad}
-use Rattle.lookup.proofs.Judging.{bad-row, good-row, no-row, place-broken, start-broken, last-rule, bad-place, good-place}
-use Rattle.lookup.proofs.Places.{of-job, beyond-jobs, places-permitted}
+use Rattle.tablecheck.specs.Checks.{placesRight, rowRight, firstBad}
+use Rattle.tablecheck.proofs.Judging.{bad-row, good-row, no-row, place-broken, start-broken, last-rule, bad-place, good-place}
+use Rattle.tablecheck.proofs.Places.{of-job, beyond-jobs, places-permitted}
 
 -- before a turn of the loop over rows: the verdict is that of the rows from the k-th on, and the row before is known
 pub record RowsLeft (p : Profile) (bytes : List ℕ) (rows : ℕ) (start : PagesPerHour) (loss k : ℕ) : Type 0 where

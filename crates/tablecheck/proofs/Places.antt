@@ -16,7 +16,7 @@ use Rattle.model.specs.Model.{seconds, noJob, entries, jobsOf, periodsOf, Allow
 use Rattle.model.proofs.Entries.{entries-step, entries-end}
 use Rattle.model.proofs.Allowing.{both-true, allowed, allowed-back}
 use Rattle.tablerows.specs.Cut.{zerosFrom}
-use Rattle.lookup.specs.Lookup.{placeRight, placesRight}
+use Rattle.tablecheck.specs.Checks.{placeRight, placesRight}
 
 pub both-hold : {a b : Bool} → a ≡ true → b ≡ true → (a && b) ≡ true
 both-hold f g = rw (f, g)
