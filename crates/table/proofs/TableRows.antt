@@ -6,7 +6,6 @@ use Prim.Native.Nat.{ℕ, zero, suc, _+_, _*_, _-_, _/_, _^_, _≤_, _<_}
 use native.Mathlib.Omega.{arith}
 use native.Mathlib.Decide.{decLt}
 use native.Mathlib.Nat.{le-refl, le-trans, sub-zero}
-use native.Mathlib.Numerals.{add-one}
 use lib.ListN.{length, getD, take, drop, replicate, length-append, length-drop, take-append-drop}
 use lib.Seq.{take-take, take-append-le, take-length, drop-at, length-take-le}
 use Rattle.model.specs.declared.Seconds.{Seconds}
@@ -23,8 +22,9 @@ use Rattle.stairs.specs.Stairs.{Stair, stair}
 use Rattle.stairs.specs.Rows.{highWord, lowWord, needIn, lowIn, stairsIn}
 use Rattle.climb.specs.Next.{Answer, lastNeed, Words, AnswersBelow}
 use Rattle.climb.proofs.Answers.{answer-at, need-at, answer-below}
+use Rattle.batches.specs.Batch.{withBatch}
 use Rattle.table.specs.Table.{tableBytes}
-use Rattle.table.specs.Descent.{rowsBelow, allBudgets, withBatch}
+use Rattle.table.specs.Descent.{rowsBelow, allBudgets}
 use Rattle.table.proofs.Descent.{rows-zero}
 use Rattle.table.proofs.Next.{rows-answer, batch-length, batch-next, batch-need, batch-count, batch-none}
 
@@ -147,11 +147,6 @@ module _ (js : List Job) (count : ℕ) (old : List ℕ) where
           same = row-length out (row - 1) high low inside ∙ i .same;
           bytes = row-in out (rowBytes high low) (row - 1) inside ∙ ap₂ (λ (a b : List ℕ). a ++ (rowBytes high low ++ b)) before-it after-it ∙ ap (λ (r : List ℕ). take (16 * (row - 1)) old ++ (r ++ (T ++ D))) is ∙ ap (λ (l : List ℕ). take (16 * (row - 1)) old ++ l) (sym (append-assoc R T D));
         }
-
--- writing a batch, as the code does it
-pub batch-more : (flat old : List ℕ) (end k : ℕ) {out new : List ℕ} → out ≡ withBatch flat end k old → new ≡ withRow out (end - 1 - k) (rowBytes (getD flat (3 * k) 0) (lowIn flat k)) → new ≡ withBatch flat end (k + 1) old
-unfolding withBatch
-batch-more flat old end k e is = rw add-one (is ∙ ap (λ (l : List ℕ). withRow l (end - 1 - k) (rowBytes (getD flat (3 * k) 0) (lowIn flat k))) e)
 
 module _ {p : Profile} {count : ℕ} {old : List ℕ} (v : Valid p) (room : count ≤ length old / 16) {out : List ℕ} {row limit found : ℕ} {flat : List ℕ} (i : Writing (jobsOf p) count old out row limit) (more : 0 < row) (b : AnswersBelow p limit found flat) where
   from : 0 < limit

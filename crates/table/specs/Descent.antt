@@ -1,9 +1,8 @@
--- The table as a list that can be computed, from the greatest budget down, how an answer is read from a table, and what the
--- private functions ask and promise. No public contract cites this. Assumes nothing.
+-- The table as a list that can be computed, from the greatest budget down, and how an answer is read from a table. Only the
+-- contracts of private functions cite this. Assumes nothing.
 use mathlib.Core.List.{List, [], _∷_, _++_}
 use mathlib.Core.Bool.{cond}
-use Prim.Native.Nat.{ℕ, zero, suc, _*_, _-_, _^_}
-use lib.ListN.{getD}
+use Prim.Native.Nat.{ℕ, zero, suc, _^_}
 use lib.Dec.{leb, ltb}
 use Rattle.model.specs.declared.Seconds.{Seconds}
 use Rattle.model.specs.declared.PagesPerHour.{PagesPerHour}
@@ -14,8 +13,6 @@ use Rattle.choose.specs.declared.Choice.{Choice}
 use Rattle.choose.specs.Choice.{answered, refused}
 use Rattle.walk.specs.Walk.{start, walk}
 use Rattle.offers.specs.Found.{Found, nothing, found, pick}
-use Rattle.codec.specs.RowWords.{rowBytes, withRow}
-use Rattle.stairs.specs.Rows.{lowIn}
 
 -- The rows up to what was found: those whose need is below its need, then itself.
 unfoldable pub upTo : (ℕ → List (List Seconds)) → Found → List (List Seconds)
@@ -45,8 +42,3 @@ lastRow js b ts (us ∷ rows) = cond (leb (need js us .0) (b .0)) (lastRow js b 
 unfoldable pub readTable : List Job → List (List Seconds) → PagesPerHour → Choice
 readTable js [] b = refused NoPeriods
 readTable js (ts ∷ rows) b = cond (ltb (b .0) (need js ts .0)) (refused (Budget (need js ts))) (answered js (lastRow js b ts rows))
-
--- A buffer with the first k rows of a batch in the places before `end`, from the back.
-unfoldable pub withBatch : List ℕ → ℕ → ℕ → List ℕ → List ℕ
-withBatch flat end zero out = out
-withBatch flat end (suc k) out = withRow (withBatch flat end k out) (end - 1 - k) (rowBytes (getD flat (3 * k) 0) (lowIn flat k))

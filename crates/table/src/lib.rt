@@ -10,19 +10,15 @@ use model::Profile;
 use model::Verdict;
 ghost use mathlib.Core.Path.{_≡_};
 ghost use mathlib.Core.List.{_++_};
-ghost use Prim.Native.Nat.{_*_, _-_, _/_, _≤_, _<_};
+ghost use Prim.Native.Nat.{_*_, _/_, _≤_};
 ghost use lib.ListN.{length, drop};
 ghost use Rattle.model.specs.Model.{jobsOf};
 ghost use Rattle.model.specs.Valid.{Valid};
-ghost use Rattle.stairs.specs.Rows.{needIn};
 ghost use Rattle.table.specs.Table.{tableBytes, Built};
-ghost use Rattle.table.specs.Descent.{rowsBelow, allBudgets, withBatch};
+ghost use Rattle.table.specs.Descent.{rowsBelow, allBudgets};
 
 // One more than the greatest budget.
 const ALL_BUDGETS: u64 = 0x1_0000_0000;
-
-// A need stands above 32 bits of periods.
-const NEED: u64 = 0x1_0000_0000;
 
 // Writes the budget table to the front of `out`, or refuses: the profile's own refusal, 9, then 11 with the rows needed.
 pub fn build_table(p: Profile, out: &mut [u8]) -> Counted
@@ -70,7 +66,7 @@ fn count_rows(p: Profile) -> u64
             return count;
         }
         count += found as u64;
-        limit = last_need(&rows, found);
+        limit = batches::last_need(&rows, found);
     }
     count
 }
@@ -85,33 +81,8 @@ fn write_rows(p: Profile, count: usize, out: &mut [u8])
     let mut limit = ALL_BUDGETS;
     while 0 < left {
         let found = climb::answers_below(p, limit, &mut rows);
-        write_batch(&rows, found, left, out);
+        batches::write_batch(&rows, found, left, out);
         left -= found;
-        limit = last_need(&rows, found);
+        limit = batches::last_need(&rows, found);
     }
-}
-
-// A batch to the places before `end`, its first row last: needs fall in a batch and rise in a table.
-fn write_batch(rows: &[u64; 768], found: usize, end: usize, out: &mut [u8])
-    requires { ⌜ found ≤ 256 ⌝ }
-    requires { ⌜ found ≤ end ⌝ }
-    ensures { λ _. ⌜ now (out .exit) ≡ withBatch (now (rows .entry)) end found (now (out .entry)) ⌝ }
-{
-    let mut k: usize = 0;
-    while k < found {
-        let high = rows[3 * k];
-        let low = rows[3 * k + 1];
-        let place = end - 1 - k;
-        codec::put_row(out, place, high, low);
-        k += 1;
-    }
-}
-
-// The need of the last of so many rows: what the next batch stays below.
-fn last_need(rows: &[u64; 768], found: usize) -> u64
-    requires { ⌜ 0 < found ⌝ }
-    requires { ⌜ found ≤ 256 ⌝ }
-    ensures { λ r. ⌜ r ≡ needIn (now (rows .entry)) (found - 1) ⌝ }
-{
-    rows[3 * (found - 1)] / NEED
 }

@@ -1,14 +1,14 @@
--- `table::write_batch` meets its contract: before each turn the first k rows of the batch stand.
+-- `batches::write_batch` meets its contract: before each turn the first k rows of the batch stand.
 -- Assumes nothing.
 use mathlib.Core.Path.{_≡_, refl, _∙_}
 use Prim.Native.Nat.{_-_, _≤_}
 use native.Mathlib.Omega.{arith}
 use borrow.Author.Needs.{needs}
 use lib.ListN.{length}
-use Rattle.table.specs.Descent.{withBatch}
-use Rattle.table.proofs.TableRows.{batch-more}
-use Rattle.table.proofs.write_batch.Statement.{statement}
-use Rattle.table.proofs.write_batch.Tie as tie
+use Rattle.batches.specs.Batch.{withBatch}
+use Rattle.batches.proofs.Batch.{batch-more}
+use Rattle.batches.proofs.write_batch.Statement.{statement}
+use Rattle.batches.proofs.write_batch.Tie as tie
 
 abbrev Inv-loop : tie.InvT-loop
 Inv-loop rows found end out₀ k₀ out k = (k ≤ found) × (length out ≡ length out₀) × (out ≡ withBatch rows end k out₀)
