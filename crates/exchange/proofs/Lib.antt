@@ -1,1 +1,2 @@
 pub mod HandedBack
+pub mod Stores

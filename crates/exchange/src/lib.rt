@@ -67,14 +67,11 @@ pub fn put_values(p: Profile, values: &mut [u32; 41])
     ensures { λ _. ⌜ now (values .exit) ≡ sets (now (values .entry)) 0 (numbersOf p) ⌝ }
 {
     values[0] = p.n;
-    put_job(p.jobs[0], values, 1);
-    put_job(p.jobs[1], values, 6);
-    put_job(p.jobs[2], values, 11);
-    put_job(p.jobs[3], values, 16);
-    put_job(p.jobs[4], values, 21);
-    put_job(p.jobs[5], values, 26);
-    put_job(p.jobs[6], values, 31);
-    put_job(p.jobs[7], values, 36);
+    let mut i: usize = 0;
+    while i < 8 {
+        put_job(p.jobs[i], values, 1 + 5 * i);
+        i += 1;
+    }
 }
 
 // A job's five numbers from `at` on.
@@ -95,14 +92,11 @@ pub fn put_answer(need: PagesPerHour, loss: u64, periods: [Seconds; 8], answer: 
 {
     answer[0] = need.0 as u64;
     answer[1] = loss;
-    answer[2] = wide(periods[0]);
-    answer[3] = wide(periods[1]);
-    answer[4] = wide(periods[2]);
-    answer[5] = wide(periods[3]);
-    answer[6] = wide(periods[4]);
-    answer[7] = wide(periods[5]);
-    answer[8] = wide(periods[6]);
-    answer[9] = wide(periods[7]);
+    let mut k: usize = 0;
+    while k < 8 {
+        answer[2 + k] = wide(periods[k]);
+        k += 1;
+    }
 }
 
 // A period as one of these numbers.

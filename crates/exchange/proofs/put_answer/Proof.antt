@@ -1,125 +1,95 @@
--- `exchange::put_answer` meets its contract: ten stores, one behind the other.
+-- `exchange::put_answer` meets its contract: need and loss, then before each turn the periods from the k-th on are left to store.
 -- Assumes nothing.
-use Rattle.model.specs.Model.{entries}
+use mathlib.Core.Path.{refl, ap}
+use mathlib.Core.List.{List, [], _∷_, map}
+use Prim.Native.Nat.{ℕ, _+_, _-_}
+use lib.ListN.{getD, set}
+use lib.Seq.{sets}
+use Rattle.model.specs.declared.Seconds.{Seconds}
+use Rattle.model.specs.Model.{seconds, entries}
+use Rattle.model.proofs.Entries.{entries-step, entries-end}
 use Rattle.exchange.specs.Numbers.{answerOf}
+use Rattle.exchange.proofs.Stores.{Completes, run-stored, all-stored}
+use native.Mathlib.Omega.{arith}
 use borrow.Author.Needs.{needs}
 use Rattle.exchange.proofs.put_answer.Statement.{statement}
 use Rattle.exchange.proofs.put_answer.Tie as tie
 
-cast-answer : tie.Need-cast-answer
+-- the periods from the k-th on, as numbers
+abbrev left : List Seconds → ℕ → List ℕ
+left ts k = map (λ (t : Seconds). t .0) (entries (seconds 0) ts k (8 - k))
+
+abbrev Inv-loop : tie.InvT-loop
+Inv-loop loss answer₀ periods k₀ answer k = Completes (sets answer₀ 2 (left periods 0)) answer (2 + k) (left periods k)
+
+abbrev μ-loop : tie.MeasureT-loop
+μ-loop loss answer₀ periods k₀ answer k = 8 - k
+
+cast-answer : tie.Need-cast-answer Inv-loop μ-loop
 cast-answer c = search needs
 
-element-write-answer : tie.Need-element-write-answer
+element-write-answer : tie.Need-element-write-answer Inv-loop μ-loop
 element-write-answer c = search needs
 
-element-write-answer-2 : tie.Need-element-write-answer-2
+element-write-answer-2 : tie.Need-element-write-answer-2 Inv-loop μ-loop
 element-write-answer-2 c = search needs
 
-array-copy-out-wide : tie.Need-array-copy-out-wide
+loop-holds : tie.Need-loop-holds Inv-loop μ-loop
+loop-holds c = record { is = refl }
+
+mul-wide : tie.Need-mul-wide Inv-loop μ-loop
+mul-wide c = search needs
+
+array-copy-out-wide : tie.Need-array-copy-out-wide Inv-loop μ-loop
 array-copy-out-wide c = search needs
 
-wide-requires : tie.Need-wide-requires
+wide-requires : tie.Need-wide-requires Inv-loop μ-loop
 wide-requires c κs = search needs
 
-element-write-answer-3 : tie.Need-element-write-answer-3
+add-answer : tie.Need-add-answer Inv-loop μ-loop
+add-answer c = search needs
+
+mul-answer : tie.Need-mul-answer Inv-loop μ-loop
+mul-answer c = search needs
+
+element-write-answer-3 : tie.Need-element-write-answer-3 Inv-loop μ-loop
 element-write-answer-3 c = search needs
 
-array-copy-out-wide-2 : tie.Need-array-copy-out-wide-2
-array-copy-out-wide-2 c = search needs
+add-k : tie.Need-add-k Inv-loop μ-loop
+add-k c = search needs
 
-wide-requires-2 : tie.Need-wide-requires-2
-wide-requires-2 c κs = search needs
+loop-less : tie.Need-loop-less Inv-loop μ-loop
+loop-less c = search needs
 
-element-write-answer-4 : tie.Need-element-write-answer-4
-element-write-answer-4 c = search needs
+loop-again : tie.Need-loop-again Inv-loop μ-loop
+loop-again c =
+    let l = c .before .before .before .loop in
+    let ts = c .before .before .before .before .before .args .t3 in
+    run-stored (getD ts (l .k) (seconds 0) .0 ∷ []) (left ts (l .k + 1)) (ap (map (λ (x : Seconds). x .0)) (entries-step (seconds 0) ts (l .k) 8 (omega arith))) (ap (set (l .answer) (2 + l .k)) (c .wide .ensures)) (omega arith) (l .inv)
 
-array-copy-out-wide-3 : tie.Need-array-copy-out-wide-3
-array-copy-out-wide-3 c = search needs
-
-wide-requires-3 : tie.Need-wide-requires-3
-wide-requires-3 c κs = search needs
-
-element-write-answer-5 : tie.Need-element-write-answer-5
-element-write-answer-5 c = search needs
-
-array-copy-out-wide-4 : tie.Need-array-copy-out-wide-4
-array-copy-out-wide-4 c = search needs
-
-wide-requires-4 : tie.Need-wide-requires-4
-wide-requires-4 c κs = search needs
-
-element-write-answer-6 : tie.Need-element-write-answer-6
-element-write-answer-6 c = search needs
-
-array-copy-out-wide-5 : tie.Need-array-copy-out-wide-5
-array-copy-out-wide-5 c = search needs
-
-wide-requires-5 : tie.Need-wide-requires-5
-wide-requires-5 c κs = search needs
-
-element-write-answer-7 : tie.Need-element-write-answer-7
-element-write-answer-7 c = search needs
-
-array-copy-out-wide-6 : tie.Need-array-copy-out-wide-6
-array-copy-out-wide-6 c = search needs
-
-wide-requires-6 : tie.Need-wide-requires-6
-wide-requires-6 c κs = search needs
-
-element-write-answer-8 : tie.Need-element-write-answer-8
-element-write-answer-8 c = search needs
-
-array-copy-out-wide-7 : tie.Need-array-copy-out-wide-7
-array-copy-out-wide-7 c = search needs
-
-wide-requires-7 : tie.Need-wide-requires-7
-wide-requires-7 c κs = search needs
-
-element-write-answer-9 : tie.Need-element-write-answer-9
-element-write-answer-9 c = search needs
-
-array-copy-out-wide-8 : tie.Need-array-copy-out-wide-8
-array-copy-out-wide-8 c = search needs
-
-wide-requires-8 : tie.Need-wide-requires-8
-wide-requires-8 c κs = search needs
-
-element-write-answer-10 : tie.Need-element-write-answer-10
-element-write-answer-10 c = search needs
-
-returns : tie.Need-returns
-unfolding answerOf entries
-returns c = simp ((c .before .before .before .before .before .before .before .before .before .before .before .before .before .before .wide .ensures), (c .before .before .before .before .before .before .before .before .before .before .before .before .wide2 .ensures), (c .before .before .before .before .before .before .before .before .before .before .wide3 .ensures), (c .before .before .before .before .before .before .before .before .wide4 .ensures), (c .before .before .before .before .before .before .wide5 .ensures), (c .before .before .before .before .wide6 .ensures), (c .before .before .wide7 .ensures), (c .wide8 .ensures))
+returns : tie.Need-returns Inv-loop μ-loop
+unfolding answerOf
+returns c =
+    let l = c .before .loop in
+    all-stored (ap (map (λ (x : Seconds). x .0)) (entries-end (seconds 0) (c .before .before .before .args .t3) (l .k) 8 (omega arith))) (l .inv)
 
 pub put-answer-spec : {M : Type 1} → statement M
 put-answer-spec =
     tie.close
     (tie.spec
+    Inv-loop
+    μ-loop
     cast-answer
     element-write-answer
     element-write-answer-2
+    loop-holds
+    mul-wide
     array-copy-out-wide
     wide-requires
+    add-answer
+    mul-answer
     element-write-answer-3
-    array-copy-out-wide-2
-    wide-requires-2
-    element-write-answer-4
-    array-copy-out-wide-3
-    wide-requires-3
-    element-write-answer-5
-    array-copy-out-wide-4
-    wide-requires-4
-    element-write-answer-6
-    array-copy-out-wide-5
-    wide-requires-5
-    element-write-answer-7
-    array-copy-out-wide-6
-    wide-requires-6
-    element-write-answer-8
-    array-copy-out-wide-7
-    wide-requires-7
-    element-write-answer-9
-    array-copy-out-wide-8
-    wide-requires-8
-    element-write-answer-10
+    add-k
+    loop-less
+    loop-again
     returns)
