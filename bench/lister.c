@@ -22,7 +22,7 @@ static int open_job(struct walk *w, uint32_t i)
 static int try_multiplier(struct walk *w, uint32_t i, uint32_t m)
 {
     uint32_t a = w->multipliers[i - 1];
-    if (w->longest[i] / w->least[i - 1] < m) {
+    if (w->longest[i] < (uint64_t)m * w->least[i - 1]) {
         if (i == 1)
             return 0;
         return try_multiplier(w, i - 1, a + w->multipliers[i - 2]);

@@ -4,6 +4,7 @@
 use model::Seconds;
 ghost use mathlib.Core.Path.{_≡_};
 ghost use Prim.Native.Nat.{_*_, _/_, _^_, _≤_, min, max};
+ghost use lib.Dec.{ltb};
 ghost use Rattle.model.specs.Model.{roundUp};
 
 // The smallest multiple of `a` that brings the greatest first period up to a job's shortest period.
@@ -15,12 +16,13 @@ pub fn first_multiplier(lo: Seconds, greatest: Seconds, a: u32) -> u32
     (lo.0 + (b - 1)) / b * a
 }
 
-// The largest number of times that the least first period goes into a job's longest period.
-pub fn last_multiplier(hi: Seconds, least: Seconds) -> u32
-    requires { ⌜ 1 ≤ least .0 ⌝ }
-    ensures { λ r. ⌜ r ≡ hi .0 / least .0 ⌝ }
+// Whether m is past the last multiplier, the largest number of times that the least first period goes into a job's longest
+// period. A product tells, and takes less time than the quotient.
+pub fn past_last(hi: Seconds, least: Seconds, m: u32) -> bool
+    requires { ⌜ (1 ≤ least .0) × (least .0 ≤ 3600) × (m ≤ 2 ^ 24) ⌝ }
+    ensures { λ r. ⌜ r ≡ ltb (hi .0 / least .0) m ⌝ }
 {
-    hi.0 / least.0
+    (hi.0 as u64) < (m as u64) * (least.0 as u64)
 }
 
 // The least first period from `least` on that m brings up to a job's shortest period.

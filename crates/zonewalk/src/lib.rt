@@ -117,7 +117,11 @@ fn try_multiplier(
 {
     let prev = i - 1;
     let a = multipliers[prev];
-    if ranges::last_multiplier(Seconds(longest[i]), Seconds(least[prev])) < m {
+    let lo = Seconds(shortest[i]);
+    let hi = Seconds(longest[i]);
+    let least_before = Seconds(least[prev]);
+    let greatest_before = Seconds(greatest[prev]);
+    if ranges::past_last(hi, least_before, m) {
         if prev == 0 {
             return false;
         }
@@ -132,8 +136,8 @@ fn try_multiplier(
             greatest,
         );
     }
-    let from = ranges::least_for(Seconds(least[prev]), Seconds(shortest[i]), m);
-    let to = ranges::greatest_for(Seconds(greatest[prev]), Seconds(longest[i]), m);
+    let from = ranges::least_for(least_before, lo, m);
+    let to = ranges::greatest_for(greatest_before, hi, m);
     if to.0 < from.0 {
         return try_multiplier(i, n, m + a, shortest, longest, multipliers, least, greatest);
     }

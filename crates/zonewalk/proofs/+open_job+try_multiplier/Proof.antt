@@ -8,6 +8,7 @@ use lib.ListN.{getD}
 use Prim.Native.Nat.{ℕ, suc, _-_, _/_, _≤_, _<_}
 use native.Mathlib.Omega.{arith}
 use borrow.Author.Needs.{needs}
+use borrow.Author.Tests.{ltb-true, ltb-false}
 use Rattle.zonewalk.specs.Zone.{Zone}
 use Rattle.zonewalk.specs.Listing.{Walk, walk, spanAt, leastFor, greatestFor, firstMultiplier, Kept, opened, after, tries, Opens, WentOn}
 use Rattle.zonewalk.proofs.Walk.{openLeft, tryLeft, falls-opening, falls-next, falls-open, falls-back, past-last, none-under, go-back, at-first, job-opened, pushed, first-asked, first-tries, back-tries, next-tries, push-opens, went-on, went-on-from, stands, ended}
@@ -21,8 +22,8 @@ use Rattle.zonewalk.proofs.try_multiplier.Kinds as try-multiplier-kinds
 use Rattle.zonewalk.proofs.+open_job+try_multiplier.Lts-try_multiplier as try-multiplier-lts
 use Rattle.ranges.proofs.first_multiplier.Reads as first-multiplier-reads
 use Rattle.ranges.proofs.greatest_for.Reads as greatest-for-reads
-use Rattle.ranges.proofs.last_multiplier.Reads as last-multiplier-reads
 use Rattle.ranges.proofs.least_for.Reads as least-for-reads
+use Rattle.ranges.proofs.past_last.Reads as past-last-reads
 use Rattle.zonewalk.proofs.+open_job+try_multiplier.{statement}
 use Rattle.zonewalk.proofs.+open_job+try_multiplier.Tie.{close}
 
@@ -61,7 +62,7 @@ abbrev open-job-claims : ℕ → open-job-lts.Claims
 open-job-claims t = (first-multiplier-reads.Asked, first-multiplier-reads.Learnt, try-multiplier-below t, try-multiplier.Post)
 
 abbrev try-multiplier-claims : ℕ → try-multiplier-lts.Claims
-try-multiplier-claims t = (last-multiplier-reads.Asked, last-multiplier-reads.Learnt, try-multiplier-below t, try-multiplier.Post, least-for-reads.Asked, least-for-reads.Learnt, greatest-for-reads.Asked, greatest-for-reads.Learnt, open-job-below t, open-job.Post)
+try-multiplier-claims t = (past-last-reads.Asked, past-last-reads.Learnt, try-multiplier-below t, try-multiplier.Post, least-for-reads.Asked, least-for-reads.Learnt, greatest-for-reads.Asked, greatest-for-reads.Learnt, open-job-below t, open-job.Post)
 
 -- there is a job to open
 still : {t : ℕ} (s : open-job-lts.Start (open-job-claims t) (open-job-at t) open-job.Post) → (s .args .i ≡ s .args .n → ⊥) → s .args .i < s .args .n
@@ -139,16 +140,16 @@ abbrev Narrowed : ℕ → Type 0
 Narrowed t = try-multiplier-lts.After-struct-known2 (try-multiplier-claims t) (try-multiplier-at t) try-multiplier.Post
 
 abbrev tested : {t : ℕ} → Narrowed t → try-multiplier-lts.Else1 (try-multiplier-claims t) (try-multiplier-at t) try-multiplier.Post
-tested k = k .before .before .before .before .before .before .before .before
+tested k = k .before .before .before .before
 
 abbrev start : {t : ℕ} → Narrowed t → try-multiplier-lts.Start (try-multiplier-claims t) (try-multiplier-at t) try-multiplier.Post
-start k = tested k .before .before .before .before .before
+start k = tested k .before .before .before .before .before .before .before
 
 last : {t : ℕ} (k : Narrowed t) → start k .args .m ≤ getD (start k .args .longest .now) (start k .args .i) 0 / getD (start k .args .least .now) (start k .args .i - 1) 0
-last k = omega (arith, tested k .before .last-multiplier .ensures, tested k .if1 .left)
+last k = ltb-false _ _ (sym (tested k .before .past-last .ensures) ∙ tested k .if1 .left)
 
-least-is : {t : ℕ} (k : Narrowed t) → k .before .before .before .before .before .least-for .result .0 ≡ leastFor (spanAt (start k .args .shortest .now) (start k .args .longest .now) (start k .args .i)) (getD (start k .args .least .now) (start k .args .i - 1) 0) (start k .args .m)
-least-is k = k .before .before .before .before .before .least-for .ensures
+least-is : {t : ℕ} (k : Narrowed t) → k .before .before .before .least-for .result .0 ≡ leastFor (spanAt (start k .args .shortest .now) (start k .args .longest .now) (start k .args .i)) (getD (start k .args .least .now) (start k .args .i - 1) 0) (start k .args .m)
+least-is k = k .before .before .before .least-for .ensures
 
 greatest-is : {t : ℕ} (k : Narrowed t) → k .before .before .greatest-for .result .0 ≡ greatestFor (spanAt (start k .args .shortest .now) (start k .args .longest .now) (start k .args .i)) (getD (start k .args .greatest .now) (start k .args .i - 1) 0) (start k .args .m)
 greatest-is k = k .before .before .greatest-for .ensures
@@ -162,28 +163,40 @@ try-multiplier-mul-a t c = search needs
 try-multiplier-element-copy-out-a : (t : ℕ) → try-multiplier-lts.Need-element-copy-out-a (try-multiplier-claims t) (try-multiplier-at t) try-multiplier.Post
 try-multiplier-element-copy-out-a t c = search needs
 
-try-multiplier-mul-t13 : (t : ℕ) → try-multiplier-lts.Need-mul-t13 (try-multiplier-claims t) (try-multiplier-at t) try-multiplier.Post
-try-multiplier-mul-t13 t c = search needs
+try-multiplier-mul-t17 : (t : ℕ) → try-multiplier-lts.Need-mul-t17 (try-multiplier-claims t) (try-multiplier-at t) try-multiplier.Post
+try-multiplier-mul-t17 t c = search needs
 
-try-multiplier-element-copy-out-t19 : (t : ℕ) → try-multiplier-lts.Need-element-copy-out-t19 (try-multiplier-claims t) (try-multiplier-at t) try-multiplier.Post
-try-multiplier-element-copy-out-t19 t c = search needs
+try-multiplier-element-copy-out-t20 : (t : ℕ) → try-multiplier-lts.Need-element-copy-out-t20 (try-multiplier-claims t) (try-multiplier-at t) try-multiplier.Post
+try-multiplier-element-copy-out-t20 t c = search needs
 
-try-multiplier-mul-t21 : (t : ℕ) → try-multiplier-lts.Need-mul-t21 (try-multiplier-claims t) (try-multiplier-at t) try-multiplier.Post
-try-multiplier-mul-t21 t c = search needs
+try-multiplier-mul-t17-2 : (t : ℕ) → try-multiplier-lts.Need-mul-t17-2 (try-multiplier-claims t) (try-multiplier-at t) try-multiplier.Post
+try-multiplier-mul-t17-2 t c = search needs
 
-try-multiplier-element-copy-out-t24 : (t : ℕ) → try-multiplier-lts.Need-element-copy-out-t24 (try-multiplier-claims t) (try-multiplier-at t) try-multiplier.Post
-try-multiplier-element-copy-out-t24 t c = search needs
+try-multiplier-element-copy-out-t20-2 : (t : ℕ) → try-multiplier-lts.Need-element-copy-out-t20-2 (try-multiplier-claims t) (try-multiplier-at t) try-multiplier.Post
+try-multiplier-element-copy-out-t20-2 t c = search needs
 
-try-multiplier-last-multiplier-requires : (t : ℕ) → try-multiplier-lts.Need-last-multiplier-requires (try-multiplier-claims t) (try-multiplier-at t) try-multiplier.Post
-try-multiplier-last-multiplier-requires t c κs =
-    let s = c .before .before .before in
-    at-prev s .least-from
+try-multiplier-mul-t17-3 : (t : ℕ) → try-multiplier-lts.Need-mul-t17-3 (try-multiplier-claims t) (try-multiplier-at t) try-multiplier.Post
+try-multiplier-mul-t17-3 t c = search needs
+
+try-multiplier-element-copy-out-t20-3 : (t : ℕ) → try-multiplier-lts.Need-element-copy-out-t20-3 (try-multiplier-claims t) (try-multiplier-at t) try-multiplier.Post
+try-multiplier-element-copy-out-t20-3 t c = search needs
+
+try-multiplier-mul-t17-4 : (t : ℕ) → try-multiplier-lts.Need-mul-t17-4 (try-multiplier-claims t) (try-multiplier-at t) try-multiplier.Post
+try-multiplier-mul-t17-4 t c = search needs
+
+try-multiplier-element-copy-out-t20-4 : (t : ℕ) → try-multiplier-lts.Need-element-copy-out-t20-4 (try-multiplier-claims t) (try-multiplier-at t) try-multiplier.Post
+try-multiplier-element-copy-out-t20-4 t c = search needs
+
+try-multiplier-past-last-requires : (t : ℕ) → try-multiplier-lts.Need-past-last-requires (try-multiplier-claims t) (try-multiplier-at t) try-multiplier.Post
+try-multiplier-past-last-requires t c κs =
+    let s = c .before .before .before .before .before in
+    (at-prev s .least-from, omega (arith, at-prev s), s .pre .1 .m-to)
 
 try-multiplier-returns : (t : ℕ) → try-multiplier-lts.Need-returns (try-multiplier-claims t) (try-multiplier-at t) try-multiplier.Post
 try-multiplier-returns t c =
     let l = c .before .before in
-    let s = l .before .before .before .before in
-    ended (held s) (past-last (held s) (s .args .i) (s .args .m) (at-prev s .multiplier-from) (omega (arith, l .last-multiplier .ensures, c .before .if1 .taken)) ∙ at-first (held s) (s .args .i) (s .args .i - 1) (from-prev s) (c .if2 .taken))
+    let s = l .before .before .before .before .before .before in
+    ended (held s) (past-last (held s) (s .args .i) (s .args .m) (at-prev s .multiplier-from) (ltb-true _ _ (sym (l .past-last .ensures) ∙ c .before .if1 .taken)) ∙ at-first (held s) (s .args .i) (s .args .i - 1) (from-prev s) (c .if2 .taken))
 
 try-multiplier-sub-try-multiplier : (t : ℕ) → try-multiplier-lts.Need-sub-try-multiplier (try-multiplier-claims t) (try-multiplier-at t) try-multiplier.Post
 try-multiplier-sub-try-multiplier t c = search needs
@@ -196,13 +209,13 @@ try-multiplier-element-copy-out-try-multiplier t c = search needs
 
 try-multiplier-add-try-multiplier : (t : ℕ) → try-multiplier-lts.Need-add-try-multiplier (try-multiplier-claims t) (try-multiplier-at t) try-multiplier.Post
 try-multiplier-add-try-multiplier t c =
-    let s = c .before .before .before .before .before .before .before in
+    let s = c .before .before .before .before .before .before .before .before .before in
     omega (arith, at-prev s, s .pre .1 .opens .each (s .args .i - 1 - 1) (omega (arith, from-prev s, s .pre .1 .opens .from)))
 
 try-multiplier-try-multiplier-requires : (t : ℕ) → try-multiplier-lts.Need-try-multiplier-requires (try-multiplier-claims t) (try-multiplier-at t) try-multiplier.Post
 try-multiplier-try-multiplier-requires t c κs =
     let e = c .before .before .before .before in
-    let s = e .before .before .before .before .before .before in
+    let s = e .before .before .before .before .before .before .before .before in
     let x = s .args in
     let prev = x .i - 1 in
     let back = back-tries (held s) (x .i) prev (s .pre .1 .opens) (from-prev s) (e .if2 .left) in
@@ -213,41 +226,17 @@ try-multiplier-returns-2 : (t : ℕ) → try-multiplier-lts.Need-returns-2 (try-
 try-multiplier-returns-2 t c =
     let e = c .before .before .before .before .before in
     let l = e .before .before in
-    let s = l .before .before .before .before in
-    went-on (past-last (held s) (s .args .i) (s .args .m) (at-prev s .multiplier-from) (omega (arith, l .last-multiplier .ensures, e .before .if1 .taken)) ∙ go-back (held s) (s .args .i) (s .args .i - 1) (from-prev s) (e .if2 .left)) (c .try-multiplier .ensures)
-
-try-multiplier-mul-t13-2 : (t : ℕ) → try-multiplier-lts.Need-mul-t13-2 (try-multiplier-claims t) (try-multiplier-at t) try-multiplier.Post
-try-multiplier-mul-t13-2 t c = search needs
-
-try-multiplier-element-copy-out-t16 : (t : ℕ) → try-multiplier-lts.Need-element-copy-out-t16 (try-multiplier-claims t) (try-multiplier-at t) try-multiplier.Post
-try-multiplier-element-copy-out-t16 t c = search needs
-
-try-multiplier-mul-t21-2 : (t : ℕ) → try-multiplier-lts.Need-mul-t21-2 (try-multiplier-claims t) (try-multiplier-at t) try-multiplier.Post
-try-multiplier-mul-t21-2 t c = search needs
-
-try-multiplier-element-copy-out-t19-2 : (t : ℕ) → try-multiplier-lts.Need-element-copy-out-t19-2 (try-multiplier-claims t) (try-multiplier-at t) try-multiplier.Post
-try-multiplier-element-copy-out-t19-2 t c = search needs
+    let s = l .before .before .before .before .before .before in
+    went-on (past-last (held s) (s .args .i) (s .args .m) (at-prev s .multiplier-from) (ltb-true _ _ (sym (l .past-last .ensures) ∙ e .before .if1 .taken)) ∙ go-back (held s) (s .args .i) (s .args .i - 1) (from-prev s) (e .if2 .left)) (c .try-multiplier .ensures)
 
 try-multiplier-least-for-requires : (t : ℕ) → try-multiplier-lts.Need-least-for-requires (try-multiplier-claims t) (try-multiplier-at t) try-multiplier.Post
 try-multiplier-least-for-requires t c κs =
     let s = c .before .before .before .before .before .before .before in
     (s .pre .1 .m-from, s .pre .1 .m-to, s .pre .1 .opens .spans .each (s .args .i) (s .pre .1 .inside) .short)
 
-try-multiplier-mul-t13-3 : (t : ℕ) → try-multiplier-lts.Need-mul-t13-3 (try-multiplier-claims t) (try-multiplier-at t) try-multiplier.Post
-try-multiplier-mul-t13-3 t c = search needs
-
-try-multiplier-element-copy-out-t24-2 : (t : ℕ) → try-multiplier-lts.Need-element-copy-out-t24-2 (try-multiplier-claims t) (try-multiplier-at t) try-multiplier.Post
-try-multiplier-element-copy-out-t24-2 t c = search needs
-
-try-multiplier-mul-t21-3 : (t : ℕ) → try-multiplier-lts.Need-mul-t21-3 (try-multiplier-claims t) (try-multiplier-at t) try-multiplier.Post
-try-multiplier-mul-t21-3 t c = search needs
-
-try-multiplier-element-copy-out-t19-3 : (t : ℕ) → try-multiplier-lts.Need-element-copy-out-t19-3 (try-multiplier-claims t) (try-multiplier-at t) try-multiplier.Post
-try-multiplier-element-copy-out-t19-3 t c = search needs
-
 try-multiplier-greatest-for-requires : (t : ℕ) → try-multiplier-lts.Need-greatest-for-requires (try-multiplier-claims t) (try-multiplier-at t) try-multiplier.Post
 try-multiplier-greatest-for-requires t c κs =
-    let s = c .before .before .before .before .before .before .before .before .before .before in
+    let s = c .before .before .before .before .before .before .before .before in
     s .pre .1 .m-from
 
 try-multiplier-add-try-multiplier-2 : (t : ℕ) → try-multiplier-lts.Need-add-try-multiplier-2 (try-multiplier-claims t) (try-multiplier-at t) try-multiplier.Post
@@ -325,11 +314,15 @@ pub +open-job+try-multiplier-spec : {M : Type 1} → statement M
     (try-multiplier-sub-prev t)
     (try-multiplier-mul-a t)
     (try-multiplier-element-copy-out-a t)
-    (try-multiplier-mul-t13 t)
-    (try-multiplier-element-copy-out-t19 t)
-    (try-multiplier-mul-t21 t)
-    (try-multiplier-element-copy-out-t24 t)
-    (try-multiplier-last-multiplier-requires t)
+    (try-multiplier-mul-t17 t)
+    (try-multiplier-element-copy-out-t20 t)
+    (try-multiplier-mul-t17-2 t)
+    (try-multiplier-element-copy-out-t20-2 t)
+    (try-multiplier-mul-t17-3 t)
+    (try-multiplier-element-copy-out-t20-3 t)
+    (try-multiplier-mul-t17-4 t)
+    (try-multiplier-element-copy-out-t20-4 t)
+    (try-multiplier-past-last-requires t)
     (try-multiplier-returns t)
     (try-multiplier-sub-try-multiplier t)
     (try-multiplier-mul-try-multiplier t)
@@ -337,15 +330,7 @@ pub +open-job+try-multiplier-spec : {M : Type 1} → statement M
     (try-multiplier-add-try-multiplier t)
     (try-multiplier-try-multiplier-requires t)
     (try-multiplier-returns-2 t)
-    (try-multiplier-mul-t13-2 t)
-    (try-multiplier-element-copy-out-t16 t)
-    (try-multiplier-mul-t21-2 t)
-    (try-multiplier-element-copy-out-t19-2 t)
     (try-multiplier-least-for-requires t)
-    (try-multiplier-mul-t13-3 t)
-    (try-multiplier-element-copy-out-t24-2 t)
-    (try-multiplier-mul-t21-3 t)
-    (try-multiplier-element-copy-out-t19-3 t)
     (try-multiplier-greatest-for-requires t)
     (try-multiplier-add-try-multiplier-2 t)
     (try-multiplier-try-multiplier-requires-2 t)
