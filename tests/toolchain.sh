@@ -24,3 +24,9 @@ install_packages() {
     # shellcheck disable=SC2086
     [ -z "$missing" ] || { apt-get update -qq && apt-get install -y -qq --no-install-recommends $missing; }
 }
+
+# Proves the planner and writes target/staticlib/libplanner.a, where there is none that is newer than every source.
+build_archive() {
+    archive=target/staticlib/libplanner.a
+    [ -f "$archive" ] && [ -z "$(find crates crates.txt -newer "$archive" -print -quit)" ] || rt staticlib planner >/dev/null
+}
