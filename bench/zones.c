@@ -51,13 +51,16 @@ static void measure(const char *name, uint32_t n, const uint32_t jobs[40], int t
 
 static uint32_t worst[40];
 
-/* All rows of the worst profile, into room for them. */
-static void *list_worst(void *room)
+/* Both list the worst profile, and alike. */
+static void *list_worst(void *unused)
 {
-    size_t rows = (size_t)CHAROPLETH_DETAIL(charopleth_zones(8, worst, 0, 0));
-    if (charopleth_zones(8, worst, room, 16 * rows) != rows)
+    size_t rows = (size_t)CHAROPLETH_DETAIL(charopleth_zones(8, worst, 0, 0)), length = 16 * rows;
+    uint8_t *have = malloc(length), *want = malloc(length);
+    if (!have || !want || charopleth_zones(8, worst, have, length) != rows || lister_zones(8, worst, want, length) != rows || memcmp(have, want, length) != 0)
         failed = 1;
-    return room;
+    free(have);
+    free(want);
+    return unused;
 }
 
 int main(void)
@@ -71,12 +74,10 @@ int main(void)
     measure("zones of profile A", 3, a, 20000);
     pthread_t thread;
     pthread_attr_t small;
-    void *room = malloc(16 * (size_t)CHAROPLETH_DETAIL(charopleth_zones(8, worst, 0, 0)));
-    if (!room || pthread_attr_init(&small) || pthread_attr_setstacksize(&small, 262144) || pthread_create(&thread, &small, list_worst, room) || pthread_join(thread, 0)) {
+    if (pthread_attr_init(&small) || pthread_attr_setstacksize(&small, 262144) || pthread_create(&thread, &small, list_worst, 0) || pthread_join(thread, 0)) {
         printf("no thread with a stack of 256 KB\n");
         return 2;
     }
-    free(room);
     printf(failed ? "bench: a bound is broken\n" : "bench: within %.1f x the lister in C, and in a stack of 256 KB\n", most_of_lister);
     return failed;
 }
