@@ -25,11 +25,11 @@ use Rattle.choose.specs.Choice.{refused, Outcome, Chosen}
 use Rattle.walk.specs.Chains.{chains}
 use Rattle.walk.specs.Walk.{start, walk, walkDown}
 use Rattle.walk.proofs.Chains.{multiples-lists, chains-only, chains-all}
-use Rattle.offers.specs.Found.{nothing, pick}
-use Rattle.search.specs.Least.{none, lessNeed}
+use Rattle.choose_offer.specs.Found.{nothing, pick}
+use Rattle.choose_walk.specs.Least.{none, lessNeed}
 use Rattle.choose.specs.Steps.{settle}
 use Rattle.walk.proofs.Falling.{down-lists}
-use Rattle.search.proofs.Fold.{walk-best}
+use Rattle.choose_walk.proofs.Fold.{walk-best}
 use Rattle.choose.proofs.LeastNeed.{walk-least}
 use Rattle.choose.proofs.Settled.{settled}
 use Rattle.choose.proofs.OneOutcome.{choose-one-outcome}
@@ -39,9 +39,9 @@ use Rattle.zones.proofs.OneOutcome.{list-zones-one-outcome}
 use Rattle.table.specs.Table.{tableBytes}
 use Rattle.table.proofs.Outcome.{rowsOf as tableOf, are-rows, none-of}
 use Rattle.table.proofs.OneOutcome.{build-table-one-outcome}
-use Rattle.tablerows.specs.Table.{rowsIn}
-use Rattle.lookup.specs.Lookup.{lookupVerdict, lastWithin}
-use Rattle.lookup.proofs.OneOutcome.{locate-one-outcome}
+use Rattle.table_row.specs.Table.{rowsIn}
+use Rattle.table_lookup.specs.Lookup.{lookupVerdict, lastWithin}
+use Rattle.table_lookup.proofs.OneOutcome.{locate-one-outcome}
 use Rattle.cases.proofs.Cases.{Case, permitting, choosing, scoring, listing, building, lookingUp, Right}
 
 -- choosing: what both walks leave, unless the profile is refused

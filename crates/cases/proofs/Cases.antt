@@ -18,7 +18,7 @@ use Rattle.choose.specs.declared.Choice.{Choice}
 use Rattle.choose.specs.Choice.{refused, Chosen}
 use Rattle.zones.specs.Zones.{Listed}
 use Rattle.table.specs.Table.{Built}
-use Rattle.lookup.specs.Lookup.{lookupVerdict, LooksUp, Locates}
+use Rattle.table_lookup.specs.Lookup.{lookupVerdict, LooksUp, Locates}
 
 -- What is asked of a profile, then what must come out: the answer, and the bytes of the rows written or of the row handed back.
 pub data Case : Type 0 where

@@ -8,16 +8,16 @@ use Rattle.codec.specs.Rows.{tableRow}
 use Rattle.score.specs.Scoring.{judgePeriod, firstUnpermitted, scoreVerdict}
 use Rattle.walk.specs.Chains.{climb, risingFrom, multiples, descend, fallingFrom, multiplesDown, chainsBy}
 use Rattle.walk.specs.Walk.{visit, walkBy}
-use Rattle.offers.specs.Found.{beats, pick}
-use Rattle.search.specs.Least.{lessNeed}
+use Rattle.choose_offer.specs.Found.{beats, pick}
+use Rattle.choose_walk.specs.Least.{lessNeed}
 use Rattle.choose.specs.Steps.{settle}
-use Rattle.zonewalk.specs.Listing.{climb as climbUp, upTo as upToLast, unlessEmpty, zonesBelow, zonesIn}
+use Rattle.zone_walk.specs.Listing.{climb as climbUp, upTo as upToLast, unlessEmpty, zonesBelow, zonesIn}
 use Rattle.zones.specs.Zones.{rowsOf}
 use Rattle.table.specs.Table.{tableBytes}
 use Rattle.table.specs.Descent.{upTo, descent}
-use Rattle.tablerows.specs.Table.{rowFields, follows}
-use Rattle.tablecheck.specs.Checks.{placeRight, placesRight, rowRight, firstBad}
-use Rattle.lookup.specs.Lookup.{tableVerdict, lookupVerdict, lastWithin}
+use Rattle.table_row.specs.Table.{rowFields, follows}
+use Rattle.table_check.specs.Checks.{placeRight, placesRight, rowRight, firstBad}
+use Rattle.table_lookup.specs.Lookup.{tableVerdict, lookupVerdict, lastWithin}
 use Rattle.cases.proofs.Cases.{Case, Right, cases}
 use Rattle.cases.proofs.Anew.{choiceFor, scoreFor, counted, roomy, countFor, bytesFor, anew, anew-right}
 

@@ -14,20 +14,20 @@ use Rattle.model.specs.Model.{seconds, pagesPerHour, PermittedAfter}
 use Rattle.model.specs.Valid.{ValidJobs}
 use Rattle.choose.specs.Choice.{refused, Outcome}
 use Rattle.walk.specs.Walk.{start, walk, walkDown}
-use Rattle.offers.specs.Found.{nothing, found, pick}
-use Rattle.search.specs.Least.{none, least, lessNeed}
+use Rattle.choose_offer.specs.Found.{nothing, found, pick}
+use Rattle.choose_walk.specs.Least.{none, least, lessNeed}
 use Rattle.walk.specs.Arrays.{Held}
 use Rattle.walk.specs.Steps.{periodsIn}
-use Rattle.offers.specs.Steps.{noPlan, foundIn}
-use Rattle.search.specs.Steps.{noNeed, leastIn, Lessens, Walks}
+use Rattle.choose_offer.specs.Steps.{noPlan, foundIn}
+use Rattle.choose_walk.specs.Steps.{noNeed, leastIn, Lessens, Walks}
 use Rattle.choose.specs.Steps.{settle, Small, planIn}
 use Rattle.walk.proofs.Falling.{down-lists}
-use Rattle.search.proofs.Fold.{BestFound, BestOrNone, walk-best}
+use Rattle.choose_walk.proofs.Fold.{BestFound, BestOrNone, walk-best}
 use Rattle.choose.proofs.LeastNeed.{LeastOrNone, walk-least}
 use Rattle.choose.proofs.Settled.{settled}
 use Rattle.walk.proofs.Held.{held-valid}
-use Rattle.search.proofs.Lessening.{some-least, no-least}
-use Rattle.offers.proofs.Stored.{plan-found, no-plan-found}
+use Rattle.choose_walk.proofs.Lessening.{some-least, no-least}
+use Rattle.choose_offer.proofs.Stored.{plan-found, no-plan-found}
 
 -- each period that is permitted is within the hour
 permitted-to : (before : Seconds) (js : List Job) (n : ℕ) (xs : List ℕ) → ValidJobs js → PermittedAfter before js (periodsIn n xs) → (k : ℕ) → k < n → getD xs k 0 ≤ 3600

@@ -14,7 +14,7 @@ use Rattle.model.specs.Valid.{ValidJobs}
 use Rattle.choose.specs.Choice.{LeastBudget}
 use Rattle.walk.specs.Chains.{chainsBy}
 use Rattle.walk.specs.Walk.{visit, start, walkBy}
-use Rattle.search.specs.Least.{Least, none, least, lessNeed}
+use Rattle.choose_walk.specs.Least.{Least, none, least, lessNeed}
 use Rattle.walk.proofs.Chains.{ListsAllowed, chains-only, chains-all}
 use Rattle.walk.proofs.Walk.{walk-all}
 

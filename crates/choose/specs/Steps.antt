@@ -7,8 +7,8 @@ use lib.ListN.{length, getD}
 use Rattle.model.specs.declared.Verdict.the-variants.{Sound, NoPeriods, Budget}
 use Rattle.model.specs.Model.{seconds, pagesPerHour, padded}
 use Rattle.walk.specs.Steps.{periodsIn}
-use Rattle.offers.specs.Found.{Found, nothing, found}
-use Rattle.search.specs.Least.{Least, none, least}
+use Rattle.choose_offer.specs.Found.{Found, nothing, found}
+use Rattle.choose_walk.specs.Least.{Least, none, least}
 use Rattle.choose.specs.declared.Choice.{Choice}
 use Rattle.choose.specs.Choice.{refused}
 

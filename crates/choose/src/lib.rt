@@ -2,13 +2,13 @@
 //
 // specs/Choice.antt says what may be answered; specs/Steps.antt serves the private functions alone.
 // Nothing is assumed, and no public function has a `requires`.
+use choose_offer::LOSS;
+use choose_offer::NEED;
+use choose_offer::NO_PLAN;
 use model::PagesPerHour;
 use model::Profile;
 use model::Seconds;
 use model::Verdict;
-use offers::LOSS;
-use offers::NEED;
-use offers::NO_PLAN;
 ghost use mathlib.Core.Path.{_≡_};
 ghost use Rattle.model.specs.Model.{jobsOf};
 ghost use Rattle.model.specs.Valid.{Valid};
@@ -50,7 +50,7 @@ fn choose_sound(p: Profile, budget: PagesPerHour) -> Choice
     let mut periods = [0u32; 8];
     let mut best = [0u64; 10];
     best[LOSS] = NO_PLAN;
-    search::find_best(
+    choose_walk::find_best(
         &seconds,
         &pages,
         &rates,
@@ -67,7 +67,7 @@ fn choose_sound(p: Profile, budget: PagesPerHour) -> Choice
     if best[LOSS] != NO_PLAN {
         return plan(n, &best);
     }
-    let least = search::least_need(
+    let least = choose_walk::least_need(
         &seconds,
         &pages,
         &rates,

@@ -9,10 +9,10 @@ fn main() {
     let mut input = [0u8; 66];
     let got = io::read_full(STDIN_FILENO, &mut input);
     let mut table = [0u8; 65536];
-    let l = listing::prepare(&input[..got], &mut table);
+    let l = ladder_listing::prepare(&input[..got], &mut table);
     let mut text = [0u8; 80];
     for k in 0..=l.rows {
-        let size = listing::line(l, &table, k, &mut text);
+        let size = ladder_listing::line(l, &table, k, &mut text);
         if !io::write_all(STDOUT_FILENO, &text[..size]) {
             return;
         }

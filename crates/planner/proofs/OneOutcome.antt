@@ -7,10 +7,10 @@ use lib.Seq.{sets}
 use Rattle.model.specs.declared.Verdict.{Verdict}
 use Rattle.model.specs.declared.Counted.{Counted}
 use Rattle.model.specs.Model.{pagesPerHour, ifSound}
-use Rattle.reading.specs.Reading.{Reads}
-use Rattle.reading.proofs.OneOutcome.{read-profile-one-outcome}
-use Rattle.writing.specs.Writing.{Writes}
-use Rattle.writing.proofs.OneOutcome.{write-profile-one-outcome}
+use Rattle.profile_read.specs.Reading.{Reads}
+use Rattle.profile_read.proofs.OneOutcome.{read-profile-one-outcome}
+use Rattle.profile_write.specs.Writing.{Writes}
+use Rattle.profile_write.proofs.OneOutcome.{write-profile-one-outcome}
 use Rattle.score.specs.Scoring.{Scores}
 use Rattle.score.proofs.OneOutcome.{score-one-outcome}
 use Rattle.choose.specs.Choice.{Chosen}
@@ -19,8 +19,8 @@ use Rattle.zones.specs.Zones.{Listed}
 use Rattle.zones.proofs.OneOutcome.{list-zones-one-outcome}
 use Rattle.table.specs.Table.{Built}
 use Rattle.table.proofs.OneOutcome.{build-table-one-outcome}
-use Rattle.lookup.specs.Lookup.{Locates}
-use Rattle.lookup.proofs.OneOutcome.{locate-one-outcome}
+use Rattle.table_lookup.specs.Lookup.{Locates}
+use Rattle.table_lookup.proofs.OneOutcome.{locate-one-outcome}
 use Rattle.exchange.specs.Numbers.{resultOf, countedOf, profileIn, numbersOf, periodsIn, answerOf}
 use Rattle.planner.specs.ForC.{CountsForC, LeavesForC}
 

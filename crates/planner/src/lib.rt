@@ -6,8 +6,6 @@
 // a `requires`.
 pub use choose::Choice;
 pub use choose::choose;
-pub use lookup::judge_lookup;
-pub use lookup::lookup;
 pub use model::Counted;
 pub use model::Job;
 pub use model::PagesPerHour;
@@ -16,22 +14,24 @@ pub use model::Seconds;
 pub use model::Verdict;
 pub use model::detail;
 pub use model::number;
-pub use reading::Reading;
-pub use reading::read_profile;
+pub use profile_read::Reading;
+pub use profile_read::read_profile;
+pub use profile_write::write_profile;
 pub use score::Scored;
 pub use score::score;
 pub use table::build_table;
-pub use writing::write_profile;
+pub use table_lookup::judge_lookup;
+pub use table_lookup::lookup;
 pub use zones::list_zones;
 ghost use mathlib.Core.List.{[], _∷_};
 ghost use Rattle.model.specs.Model.{pagesPerHour};
-ghost use Rattle.reading.specs.Reading.{Reads};
-ghost use Rattle.writing.specs.Writing.{Writes};
+ghost use Rattle.profile_read.specs.Reading.{Reads};
+ghost use Rattle.profile_write.specs.Writing.{Writes};
 ghost use Rattle.score.specs.Scoring.{Scores};
 ghost use Rattle.choose.specs.Choice.{Chosen};
 ghost use Rattle.zones.specs.Zones.{Listed};
 ghost use Rattle.table.specs.Table.{Built};
-ghost use Rattle.lookup.specs.Lookup.{Locates};
+ghost use Rattle.table_lookup.specs.Lookup.{Locates};
 ghost use Rattle.exchange.specs.Numbers.{profileIn, numbersOf, periodsIn, answerOf};
 ghost use Rattle.planner.specs.ForC.{CountsForC, LeavesForC};
 
@@ -40,7 +40,7 @@ ghost use Rattle.planner.specs.ForC.{CountsForC, LeavesForC};
 pub extern "C" fn charopleth_read(bytes: &[u8], values: &mut [u32; 41]) -> u64
     ensures { λ r. ⌜ LeavesForC (Reads (now (bytes .entry))) (λ a. a .verdict) (λ a. numbersOf (a .profile)) (now (values .entry)) r (now (values .exit)) ⌝ }
 {
-    let r = reading::read_profile(bytes);
+    let r = profile_read::read_profile(bytes);
     let v = r.verdict;
     let Verdict::Sound = v else {
         return exchange::result(v);
@@ -55,7 +55,7 @@ pub extern "C" fn charopleth_read(bytes: &[u8], values: &mut [u32; 41]) -> u64
 pub extern "C" fn charopleth_write(n: u32, jobs: &[u32; 40], room: &mut [u8]) -> u64
     ensures { λ r. ⌜ CountsForC (λ a. Writes (profileIn n (now (jobs .entry))) (now (room .entry)) a (now (room .exit))) r ⌝ }
 {
-    let c = writing::write_profile(exchange::profile(n, jobs), room);
+    let c = profile_write::write_profile(exchange::profile(n, jobs), room);
     exchange::counted(c)
 }
 
@@ -122,6 +122,6 @@ pub extern "C" fn charopleth_table(n: u32, jobs: &[u32; 40], room: &mut [u8]) ->
 pub extern "C" fn charopleth_lookup(n: u32, jobs: &[u32; 40], table: &[u8], budget: u32) -> u64
     ensures { λ r. ⌜ CountsForC (Locates (profileIn n (now (jobs .entry))) (now (table .entry)) (pagesPerHour budget)) r ⌝ }
 {
-    let c = lookup::locate(exchange::profile(n, jobs), table, PagesPerHour(budget));
+    let c = table_lookup::locate(exchange::profile(n, jobs), table, PagesPerHour(budget));
     exchange::counted(c)
 }

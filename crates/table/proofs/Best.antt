@@ -14,8 +14,8 @@ use Rattle.model.specs.Model.{seconds, cost, Permitted, lastOf, pagesIn, need, 
 use Rattle.model.specs.Valid.{ValidJobs}
 use Rattle.model.proofs.Bounds.{cost-bound, need-bound}
 use Rattle.walk.specs.Walk.{walk, start}
-use Rattle.offers.specs.Found.{Found, nothing, found, pick}
-use Rattle.search.proofs.Fold.{BestOrNone, walk-best}
+use Rattle.choose_offer.specs.Found.{Found, nothing, found, pick}
+use Rattle.choose_walk.proofs.Fold.{BestOrNone, walk-best}
 use Rattle.choose.proofs.OneOutcome.{one-best}
 use Rattle.walk.proofs.Pages.{last-positive}
 use Rattle.table.specs.Table.{TableOf}

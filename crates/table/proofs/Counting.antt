@@ -10,8 +10,8 @@ use Rattle.model.specs.declared.Job.{Job}
 use Rattle.model.specs.declared.Profile.{Profile}
 use Rattle.model.specs.Model.{jobsOf}
 use Rattle.model.specs.Valid.{Valid}
-use Rattle.stairs.specs.Rows.{needIn}
-use Rattle.climb.specs.Next.{AnswersBelow}
+use Rattle.table_stairs.specs.Rows.{needIn}
+use Rattle.table_climb.specs.Next.{AnswersBelow}
 use Rattle.table.specs.Descent.{rowsBelow, allBudgets}
 use Rattle.table.proofs.Descent.{rows-few, rows-zero}
 use Rattle.table.proofs.Next.{batch-need, batch-count, batch-falls, batch-none}

@@ -11,11 +11,11 @@ use Rattle.model.specs.declared.Job.{Job}
 use Rattle.model.specs.declared.Profile.{Profile}
 use Rattle.model.specs.Model.{jobsOf}
 use Rattle.model.specs.Valid.{ValidJobs, Valid}
-use Rattle.stairs.specs.Stairs.{Stair, stair}
-use Rattle.stairs.specs.Rows.{needIn, stairsIn}
-use Rattle.climb.specs.Next.{Answer, NextAnswers, lastNeed, AnswersUnder, AnswersBelow}
-use Rattle.stairs.proofs.Rows.{rows-length}
-use Rattle.climb.proofs.Answers.{need-last, limit-falls}
+use Rattle.table_stairs.specs.Stairs.{Stair, stair}
+use Rattle.table_stairs.specs.Rows.{needIn, stairsIn}
+use Rattle.table_climb.specs.Next.{Answer, NextAnswers, lastNeed, AnswersUnder, AnswersBelow}
+use Rattle.table_stairs.proofs.Rows.{rows-length}
+use Rattle.table_climb.proofs.Answers.{need-last, limit-falls}
 use Rattle.table.specs.Descent.{rowsBelow}
 use Rattle.table.proofs.Descent.{rows-step, rows-none}
 

@@ -18,11 +18,11 @@ use Rattle.codec.specs.Layout.{byteWidths}
 use Rattle.codec.specs.RowWords.{rowBytes, withRow}
 use Rattle.codec.specs.Rows.{tableWidths, tableRow}
 use Rattle.codec.proofs.Rows.{row-of-words, row-in, length-row}
-use Rattle.stairs.specs.Stairs.{Stair, stair}
-use Rattle.stairs.specs.Rows.{highWord, lowWord, needIn, lowIn, stairsIn}
-use Rattle.climb.specs.Next.{Answer, lastNeed, Words, AnswersBelow}
-use Rattle.climb.proofs.Answers.{answer-at, need-at, answer-below}
-use Rattle.batches.specs.Batch.{withBatch}
+use Rattle.table_stairs.specs.Stairs.{Stair, stair}
+use Rattle.table_stairs.specs.Rows.{highWord, lowWord, needIn, lowIn, stairsIn}
+use Rattle.table_climb.specs.Next.{Answer, lastNeed, Words, AnswersBelow}
+use Rattle.table_climb.proofs.Answers.{answer-at, need-at, answer-below}
+use Rattle.table_batch.specs.Batch.{withBatch}
 use Rattle.table.specs.Table.{tableBytes}
 use Rattle.table.specs.Descent.{rowsBelow, allBudgets}
 use Rattle.table.proofs.Descent.{rows-zero}

@@ -12,7 +12,7 @@ use Rattle.model.specs.Model.{need}
 use Rattle.choose.specs.declared.Choice.{Choice}
 use Rattle.choose.specs.Choice.{answered, refused}
 use Rattle.walk.specs.Walk.{start, walk}
-use Rattle.offers.specs.Found.{Found, nothing, found, pick}
+use Rattle.choose_offer.specs.Found.{Found, nothing, found, pick}
 
 -- The rows up to what was found: those whose need is below its need, then itself.
 unfoldable pub upTo : (ℕ → List (List Seconds)) → Found → List (List Seconds)

@@ -61,12 +61,12 @@ fn count_rows(p: Profile) -> u64
     let mut count: u64 = 0;
     let mut limit = ALL_BUDGETS;
     while 0 < limit {
-        let found = climb::answers_below(p, limit, &mut rows);
+        let found = table_climb::answers_below(p, limit, &mut rows);
         if found == 0 {
             return count;
         }
         count += found as u64;
-        limit = batches::last_need(&rows, found);
+        limit = table_batch::last_need(&rows, found);
     }
     count
 }
@@ -80,9 +80,9 @@ fn write_rows(p: Profile, count: usize, out: &mut [u8])
     let mut left = count;
     let mut limit = ALL_BUDGETS;
     while 0 < left {
-        let found = climb::answers_below(p, limit, &mut rows);
-        batches::write_batch(&rows, found, left, out);
+        let found = table_climb::answers_below(p, limit, &mut rows);
+        table_batch::write_batch(&rows, found, left, out);
         left -= found;
-        limit = batches::last_need(&rows, found);
+        limit = table_batch::last_need(&rows, found);
     }
 }

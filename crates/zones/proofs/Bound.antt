@@ -14,8 +14,8 @@ use Rattle.model.specs.declared.Job.{Job}
 use Rattle.model.specs.Model.{roundUp}
 use Rattle.model.specs.Valid.{ValidJobs}
 use Rattle.model.proofs.Rounding.{round-up-some}
-use Rattle.zonewalk.specs.Zone.{Zone}
-use Rattle.zonewalk.specs.Listing.{spanOf, climb, upTo, leastFor, greatestFor, unlessEmpty, zonesBelow, zonesIn, zonesFor}
+use Rattle.zone_walk.specs.Zone.{Zone}
+use Rattle.zone_walk.specs.Listing.{spanOf, climb, upTo, leastFor, greatestFor, unlessEmpty, zonesBelow, zonesIn, zonesFor}
 
 -- the terms from the j + 1-th on: each is at most C times a square, and the k-th root times k is at most M
 halves : (j C M q x rest : ℕ) → suc j * q ≤ M → x ≤ C * (q * q) → suc j * rest ≤ C * (M * M) → j * (x + rest) ≤ C * (M * M)

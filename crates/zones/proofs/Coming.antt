@@ -3,7 +3,7 @@
 use mathlib.Core.Path.{_≡_, ap}
 use mathlib.Core.Bool.{Bool, true, false}
 use mathlib.Core.List.{[], _∷_}
-use Rattle.zonewalk.specs.Listing.{Walk, after, current, coming}
+use Rattle.zone_walk.specs.Listing.{Walk, after, current, coming}
 
 pub coming-true : (w : Walk) (found : Bool) → found ≡ true → coming w found ≡ current w ∷ after w (w .n)
 unfolding coming

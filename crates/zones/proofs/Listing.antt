@@ -16,10 +16,10 @@ use Rattle.model.specs.declared.Job.{Job}
 use Rattle.model.specs.Model.{seconds, roundUp}
 use Rattle.model.specs.Valid.{ValidJobs}
 use Rattle.model.proofs.Rounding.{round-up-le, round-up-some}
-use Rattle.zonewalk.specs.Zone.{Zone}
+use Rattle.zone_walk.specs.Zone.{Zone}
 use Rattle.zones.specs.Zones.{MultiplesAfter, InIntervals, IsZone, Before, Rising, ZonesOf}
-use Rattle.zonewalk.specs.Listing.{Span, spanOf, upTo, firstMultiplier, leastFor, greatestFor, unlessEmpty, zonesBelow, zonesIn, zonesFor}
-use Rattle.zonewalk.proofs.Climbing.{RisingNumbers, up-to-rising, up-to-in, up-to-has}
+use Rattle.zone_walk.specs.Listing.{Span, spanOf, upTo, firstMultiplier, leastFor, greatestFor, unlessEmpty, zonesBelow, zonesIn, zonesFor}
+use Rattle.zone_walk.proofs.Climbing.{RisingNumbers, up-to-rising, up-to-in, up-to-has}
 use Rattle.zones.proofs.Flat.{in-flat, flat-has}
 use Rattle.zones.proofs.Ranges.{InRange, narrowed, narrows, in-nonempty, in-open}
 use Rattle.zones.proofs.Rising.{before-after, rising-append}

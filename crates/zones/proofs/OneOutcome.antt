@@ -10,7 +10,7 @@ use Rattle.model.specs.declared.Profile.{Profile}
 use Rattle.model.specs.declared.Counted.{Counted}
 use Rattle.model.specs.Model.{jobsOf}
 use Rattle.model.proofs.RowsPut.{rows-one-outcome}
-use Rattle.zonewalk.specs.Zone.{Zone}
+use Rattle.zone_walk.specs.Zone.{Zone}
 use Rattle.zones.specs.Zones.{ZonesOf, rowsOf, Listed}
 use Rattle.zones.proofs.Rising.{rising-one}
 

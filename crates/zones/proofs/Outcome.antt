@@ -12,11 +12,11 @@ use Rattle.model.specs.Model.{noJob, jobsOf, verdictOf, PutsRows}
 use Rattle.model.specs.Valid.{Valid}
 use Rattle.model.proofs.Entries.{length-entries}
 use Rattle.model.proofs.Validity.{sound-valid}
-use Rattle.zonewalk.specs.Zone.{Zone}
+use Rattle.zone_walk.specs.Zone.{Zone}
 use Rattle.zones.specs.Zones.{ZonesOf, rowsOf, Listed}
-use Rattle.zonewalk.specs.Listing.{spansFrom, zonesIn, zonesFor, IntervalsOf}
+use Rattle.zone_walk.specs.Listing.{spansFrom, zonesIn, zonesFor, IntervalsOf}
 use Rattle.zones.proofs.Bound.{zones-few}
-use Rattle.zonewalk.proofs.Copied.{spans-are}
+use Rattle.zone_walk.proofs.Copied.{spans-are}
 use Rattle.zones.proofs.Listing.{listing-is}
 
 abbrev pub zonesOf : Profile → List Zone

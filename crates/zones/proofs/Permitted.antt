@@ -11,9 +11,9 @@ use Rattle.model.specs.declared.Seconds.{Seconds}
 use Rattle.model.specs.declared.Job.{Job}
 use Rattle.model.specs.Model.{seconds, PermittedAfter, Permitted}
 use Rattle.model.specs.Valid.{ValidJobs}
-use Rattle.zonewalk.specs.Zone.{Zone}
+use Rattle.zone_walk.specs.Zone.{Zone}
 use Rattle.zones.specs.Zones.{MultiplesAfter, InIntervals, IsZone}
-use Rattle.zonewalk.specs.Listing.{zonesFor}
+use Rattle.zone_walk.specs.Listing.{zonesFor}
 use Rattle.zones.proofs.Ranges.{InRange}
 use Rattle.zones.proofs.Listing.{same-zone, front, zones-have, listing-is}
 

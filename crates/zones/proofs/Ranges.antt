@@ -8,8 +8,8 @@ use native.Mathlib.Omega.{arith}
 use native.Mathlib.Nat.{le-div-iff-mul-le}
 use Rattle.model.specs.Model.{roundUp}
 use Rattle.model.proofs.Rounding.{round-up-le}
-use Rattle.zonewalk.specs.Zone.{Zone}
-use Rattle.zonewalk.specs.Listing.{Span, leastFor, greatestFor, unlessEmpty}
+use Rattle.zone_walk.specs.Zone.{Zone}
+use Rattle.zone_walk.specs.Listing.{Span, leastFor, greatestFor, unlessEmpty}
 
 -- a first period in a zone's range
 abbrev pub InRange : Zone → ℕ → Type 0

@@ -14,9 +14,9 @@ use Rattle.codec.specs.Layout.{byteWidths}
 use Rattle.codec.specs.RowWords.{rowBytes, withRow}
 use Rattle.codec.proofs.Packing.{length-recut}
 use Rattle.codec.proofs.Rows.{row-of-words, row-in}
-use Rattle.zonewalk.specs.Zone.{Zone}
+use Rattle.zone_walk.specs.Zone.{Zone}
 use Rattle.zones.specs.Zones.{zoneWidths, zoneFields, rowsOf}
-use Rattle.zonewalk.specs.Listing.{Walk, after, current, coming, Opens, WentOn}
+use Rattle.zone_walk.specs.Listing.{Walk, after, current, coming, Opens, WentOn}
 use Rattle.zones.specs.ZoneRows.{Wrote, RowNumbers, highWord, lowWord}
 use Rattle.zones.proofs.Coming.{coming-true, coming-false}
 

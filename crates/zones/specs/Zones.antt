@@ -1,5 +1,5 @@
 -- Harmonic zones, their rows, and what listing them answers (document 01, Zones and Packing). The record Zone, a range and its
--- multipliers, stands in specs/Zone.antt of zonewalk. Cited by public contracts. Assumes nothing.
+-- multipliers, stands in specs/Zone.antt of zone_walk. Cited by public contracts. Assumes nothing.
 use mathlib.Core.Path.{_≡_}
 use mathlib.Core.Logic.{_↔_}
 use mathlib.Core.List.{List, [], _∷_, _++_, List·Memᴰ}
@@ -12,7 +12,7 @@ use Rattle.model.specs.declared.Verdict.the-variants.{Sound}
 use Rattle.model.specs.Model.{entries, jobsOf, verdictOf, PutsRows}
 use Rattle.codec.specs.Layout.{byteWidths}
 use Rattle.codec.specs.Packing.{recut}
-use Rattle.zonewalk.specs.Zone.{Zone}
+use Rattle.zone_walk.specs.Zone.{Zone}
 
 -- Multipliers from 1 up, each a whole multiple of the one before it (Zones).
 abbrev pub MultiplesAfter : ℕ → List ℕ → Type 0

@@ -10,7 +10,7 @@ ghost use mathlib.Core.Path.{_≡_};
 ghost use Prim.Native.Nat.{_^_, _<_};
 ghost use lib.ListN.{length};
 ghost use Rattle.zones.specs.Zones.{Listed};
-ghost use Rattle.zonewalk.specs.Listing.{Spans, spansFrom, zonesIn};
+ghost use Rattle.zone_walk.specs.Listing.{Spans, spansFrom, zonesIn};
 ghost use Rattle.zones.specs.ZoneRows.{RowNumbers, highWord, lowWord, Wrote};
 
 // Writes the rows of all zones to the front of `out`, or refuses: the profile's own refusal, 9, then 11 with the rows needed.
@@ -27,7 +27,7 @@ pub fn list_zones(p: Profile, out: &mut [u8]) -> Counted
     let n = p.n as usize;
     let mut shortest = [0u32; 8];
     let mut longest = [0u32; 8];
-    zonewalk::intervals(p, &mut shortest, &mut longest);
+    zone_walk::intervals(p, &mut shortest, &mut longest);
     let mut nowhere = [0u8; 1];
     let count = write_zones(n, &shortest, &longest, &mut nowhere);
     if count == 0 {
@@ -60,7 +60,7 @@ fn write_zones(n: usize, shortest: &[u32; 8], longest: &[u32; 8], out: &mut [u8]
     let mut least = [0u32; 8];
     let mut greatest = [0u32; 8];
     let mut row: usize = 0;
-    let mut found = zonewalk::first_zone(
+    let mut found = zone_walk::first_zone(
         n,
         shortest,
         longest,
@@ -77,7 +77,7 @@ fn write_zones(n: usize, shortest: &[u32; 8], longest: &[u32; 8], out: &mut [u8]
         let low = low_word(&multipliers);
         codec::put_row(out, row, high, low);
         row += 1;
-        found = zonewalk::next_zone(
+        found = zone_walk::next_zone(
             n,
             shortest,
             longest,

@@ -3,7 +3,7 @@
 use mathlib.Core.Path.{subst}
 use Rattle.model.specs.declared.Profile.{Profile}
 use Rattle.model.specs.Model.{pagesPerHour}
-use Rattle.lookup.specs.Lookup.{Locates}
+use Rattle.table_lookup.specs.Lookup.{Locates}
 use borrow.Author.Needs.{needs}
 use Rattle.planner.proofs.charopleth_lookup.Statement.{statement}
 use Rattle.planner.proofs.charopleth_lookup.Tie as tie

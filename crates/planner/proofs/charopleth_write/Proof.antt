@@ -2,7 +2,7 @@
 -- Assumes nothing.
 use mathlib.Core.Path.{subst}
 use Rattle.model.specs.declared.Profile.{Profile}
-use Rattle.writing.specs.Writing.{Writes}
+use Rattle.profile_write.specs.Writing.{Writes}
 use Rattle.exchange.specs.Numbers.{profileIn}
 use borrow.Author.Needs.{needs}
 use Rattle.planner.proofs.charopleth_write.Statement.{statement}

@@ -10,10 +10,10 @@ use Rattle.model.specs.Model.{verdictOf, rowsVerdict}
 use Rattle.model.proofs.Validity.{sound-valid}
 use Rattle.model.proofs.Verdicts.{refuses, refused-stays}
 use Rattle.model.proofs.RowsPut.{none-put, no-rows, no-room, all-put}
-use Rattle.zonewalk.specs.Listing.{Spans, spansFrom, zonesIn}
-use Rattle.zonewalk.specs.Zone.{Zone}
+use Rattle.zone_walk.specs.Listing.{Spans, spansFrom, zonesIn}
+use Rattle.zone_walk.specs.Zone.{Zone}
 use Rattle.zones.specs.Zones.{rowsOf}
-use Rattle.zonewalk.proofs.Copied.{spans-within}
+use Rattle.zone_walk.proofs.Copied.{spans-within}
 use Rattle.zones.proofs.Outcome.{zonesOf, listed, zones-are, few-zones}
 use Rattle.zones.proofs.list_zones.Statement.{statement}
 use Rattle.zones.proofs.list_zones.Tie as tie

@@ -4,7 +4,7 @@ use mathlib.Core.Path.{refl}
 use native.Mathlib.Omega.{arith}
 use borrow.Author.Needs.{needs}
 use lib.ListN.{length}
-use Rattle.zonewalk.specs.Listing.{walk, spansFrom, zonesIn, coming}
+use Rattle.zone_walk.specs.Listing.{walk, spansFrom, zonesIn, coming}
 use Rattle.zones.proofs.ZoneRows.{Writing, none-written, all-written, row-inside, numbers, one-written, fewer-left}
 use Rattle.zones.proofs.write_zones.Statement.{statement}
 use Rattle.zones.proofs.write_zones.Tie as tie

@@ -1,0 +1,76 @@
+-- `choose_offer::offer` meets its contract: each way out is one case of the update.
+-- Assumes nothing.
+use borrow.Author.Needs.{needs}
+use mathlib.Core.Path.{ap}
+use Rattle.model.specs.declared.PagesPerHour.{PagesPerHour}
+use Rattle.choose_offer.proofs.Stored.{offer-over, offer-more-loss, offer-no-less, offer-less-loss, offer-less-need}
+use native.Mathlib.Omega.{arith}
+use Rattle.choose_offer.proofs.offer.Statement.{statement}
+use Rattle.choose_offer.proofs.offer.Tie as tie
+
+need-of-requires : tie.Need-need-of-requires
+need-of-requires c κs = search needs
+
+returns : tie.Need-returns
+returns c =
+    let p = c .before .before .before .before .pre in
+    let e = ap (λ (q : PagesPerHour). q .0) (c .before .before .before .need-of .ensures) in
+    offer-over (p .1 .0) (p .1 .1) (omega arith)
+
+element-copy-out-if2 : tie.Need-element-copy-out-if2
+element-copy-out-if2 c = search needs
+
+keep-requires : tie.Need-keep-requires
+keep-requires c κs = search needs
+
+returns-2 : tie.Need-returns-2
+returns-2 c =
+    let p = c .before .before .before .before .before .before .before .before .pre in
+    let e = ap (λ (q : PagesPerHour). q .0) (c .before .before .before .before .before .before .before .need-of .ensures) in
+    offer-less-loss (p .1 .0) (p .1 .1) (omega (arith, c .before .before .before .before .if1 .left)) (c .before .before .before .before .before .before .before .need-of .ensures) (c .keep .ensures) (omega (arith, c .before .before .if2 .taken))
+
+element-copy-out-if3 : tie.Need-element-copy-out-if3
+element-copy-out-if3 c = search needs
+
+returns-3 : tie.Need-returns-3
+returns-3 c =
+    let p = c .before .before .before .before .before .before .before .before .pre in
+    offer-more-loss (p .1 .0) (p .1 .1) (omega (arith, c .if3 .taken))
+
+cast-if4 : tie.Need-cast-if4
+cast-if4 c = search needs
+
+element-copy-out-if4 : tie.Need-element-copy-out-if4
+element-copy-out-if4 c = search needs
+
+keep-requires-2 : tie.Need-keep-requires-2
+keep-requires-2 c κs = search needs
+
+returns-4 : tie.Need-returns-4
+returns-4 c =
+    let p = c .before .before .before .before .before .before .before .before .before .before .before .before .before .pre in
+    let e = ap (λ (q : PagesPerHour). q .0) (c .before .before .before .before .before .before .before .before .before .before .before .before .need-of .ensures) in
+    offer-less-need (p .1 .0) (p .1 .1) (omega (arith, c .before .before .before .before .before .before .before .before .before .if1 .left)) (c .before .before .before .before .before .before .before .before .before .before .before .before .need-of .ensures) (c .keep2 .ensures) (omega (arith, c .before .before .before .before .before .if3 .left, c .before .before .before .before .before .before .before .if2 .left)) (omega (arith, c .before .before .if4 .taken))
+
+returns-5 : tie.Need-returns-5
+returns-5 c =
+    let p = c .before .before .before .before .before .before .before .before .before .before .before .pre in
+    let e = ap (λ (q : PagesPerHour). q .0) (c .before .before .before .before .before .before .before .before .before .before .need-of .ensures) in
+    offer-no-less (p .1 .0) (p .1 .1) (omega (arith, c .before .before .before .before .before .if2 .left)) (omega arith)
+
+pub offer-spec : {M : Type 1} → statement M
+offer-spec =
+    tie.close
+    (tie.spec
+    need-of-requires
+    returns
+    element-copy-out-if2
+    keep-requires
+    returns-2
+    element-copy-out-if3
+    returns-3
+    cast-if4
+    element-copy-out-if4
+    keep-requires-2
+    returns-4
+    returns-5)

@@ -1,0 +1,156 @@
+// The two walks of a choice: for the best plan that fits a budget, and for the least need of all plans.
+//
+// specs/Least.antt says what the second keeps, specs/Steps.antt what these functions ask and promise; proofs/Fold.antt shows
+// that the first ends with the best. They serve other crates of the planner, and their callers meet what is required.
+// Nothing is assumed.
+use choose_offer::LOSS;
+use model::PagesPerHour;
+use model::Seconds;
+ghost use mathlib.Core.Path.{_≡_};
+ghost use mathlib.Core.Bool.{false};
+ghost use Prim.Native.Nat.{min};
+ghost use Rattle.walk.specs.Steps.{Ready, ReadyForCut};
+ghost use Rattle.choose_offer.specs.Steps.{Sizes};
+ghost use Rattle.choose_walk.specs.Steps.{ReadyForNeed, Lessens, LessensNothing, Walks};
+
+// Tries all permitted plans that begin with the first i of `periods`, multiples in rising order, and keeps the best that
+// fits. `step` is the last of these periods; in that time they have `written` so many pages, and they have `lost` so much.
+pub fn find_best(
+    seconds: &[u32; 16],
+    pages: &[u32; 16],
+    rates: &[u32; 17],
+    stiffnesses: &[u32; 8],
+    i: usize,
+    n: usize,
+    budget: PagesPerHour,
+    step: Seconds,
+    written: u64,
+    lost: u64,
+    periods: &mut [u32; 8],
+    best: &mut [u64; 10],
+)
+    requires { ⌜ Ready (now seconds) (now pages) (now rates) (now stiffnesses) i n step written lost ⌝ }
+    requires { ⌜ Sizes n (now periods) (now best) ⌝ }
+    ensures { λ _. ⌜ Walks (now (seconds .entry)) (now (pages .entry)) (now (rates .entry)) (now (stiffnesses .entry)) i n budget step written lost (now (periods .entry)) (now (periods .exit)) (now (best .entry)) (now (best .exit)) ⌝ }
+{
+    if i == n {
+        choose_offer::offer(n, budget, step, written, lost, periods, best);
+        return;
+    }
+    let lo = seconds[i];
+    let hi = seconds[8 + i];
+    let own = pages[i] as u64;
+    let first = (lo + (step.0 - 1)) / step.0;
+    let mut t = first * step.0;
+    while t <= hi {
+        let here = lost
+            + walk::job_loss(
+                stiffnesses[i],
+                PagesPerHour(rates[i]),
+                pages[8 + i],
+                Seconds(t),
+            );
+        let floor = here
+            + walk::loss_floor(seconds, pages, rates, stiffnesses, i + 1, n, Seconds(t));
+        if best[LOSS] < floor {
+            return;
+        }
+        let a = t / step.0;
+        let next = t + step.0;
+        if walk::repeats(pages, i, a, first) {
+            t = next;
+            continue;
+        }
+        let more = written * (a as u64) + own;
+        if choose_offer::may_win(
+            seconds,
+            rates,
+            i + 1,
+            n,
+            budget,
+            Seconds(t),
+            more,
+            floor,
+            best,
+        ) {
+            periods[i] = t;
+            find_best(
+                seconds,
+                pages,
+                rates,
+                stiffnesses,
+                i + 1,
+                n,
+                budget,
+                Seconds(t),
+                more,
+                here,
+                periods,
+                best,
+            );
+        }
+        t = next;
+    }
+}
+
+// The least need of all permitted plans that begin with i periods, the last of them `step`, and `written` so many pages in
+// that time, or `had` if that is less; largest multiples first.
+pub fn least_need(
+    seconds: &[u32; 16],
+    pages: &[u32; 16],
+    rates: &[u32; 17],
+    i: usize,
+    n: usize,
+    step: Seconds,
+    written: u64,
+    had: PagesPerHour,
+) -> PagesPerHour
+    requires { ⌜ ReadyForNeed (now seconds) (now pages) (now rates) i n step written ⌝ }
+    ensures { λ r. ⌜ Lessens (now (seconds .entry)) (now (pages .entry)) (now (rates .entry)) i n step written had r ⌝ }
+{
+    if i == n {
+        return smaller(walk::need_of(written, step), had);
+    }
+    let lo = seconds[i];
+    let own = pages[i] as u64;
+    let mut least = had;
+    let mut t = seconds[8 + i] / step.0 * step.0;
+    while lo <= t {
+        let more = written * ((t / step.0) as u64) + own;
+        let next = t - step.0;
+        if may_lessen(seconds, rates, i + 1, n, Seconds(t), more, least) {
+            least = least_need(seconds, pages, rates, i + 1, n, Seconds(t), more, least);
+        }
+        t = next;
+    }
+    least
+}
+
+// Whether a plan that begins so could need less than `had`: jobs i to n are still to come.
+fn may_lessen(
+    seconds: &[u32; 16],
+    rates: &[u32; 17],
+    i: usize,
+    n: usize,
+    t: Seconds,
+    written: u64,
+    had: PagesPerHour,
+) -> bool
+    requires { ⌜ ReadyForCut (now seconds) (now rates) i n t written ⌝ }
+    ensures { λ r. ⌜ (r ≡ false → LessensNothing (now (seconds .entry)) (now (rates .entry)) i n t written had) ⌝ }
+{
+    let floor = walk::need_of(written, t).0 + rates[8 + i];
+    if had.0 <= floor {
+        return false;
+    }
+    walk::reaches(seconds, i, n, t)
+}
+
+fn smaller(a: PagesPerHour, b: PagesPerHour) -> PagesPerHour
+    ensures { λ r. ⌜ r .0 ≡ min (a .0) (b .0) ⌝ }
+{
+    if a.0 < b.0 {
+        return a;
+    }
+    b
+}

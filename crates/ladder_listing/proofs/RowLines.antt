@@ -1,0 +1,63 @@
+-- A row as a line: what stands where the row is there and its periods score, and nothing elsewhere. Scored periods are
+-- permitted, and so small enough for the text. Assumes nothing.
+use mathlib.Core.Path.{_≡_, sym, _∙_, ap}
+use mathlib.Core.List.{List, []}
+use Prim.Native.Nat.{ℕ, _+_, _*_, _^_, _≤_, _<_}
+use borrow.Author.Tests.{lt-ltb, le-ltb}
+use Rattle.model.specs.declared.Seconds.{Seconds}
+use Rattle.model.specs.declared.Profile.{Profile}
+use Rattle.model.specs.declared.Verdict.the-variants.{Sound}
+use Rattle.model.specs.Model.{seconds, noJob, jobsOf, periodsOf, loss, ifSound, verdictOf}
+use Rattle.model.proofs.Entries.{length-entries}
+use Rattle.model.proofs.Validity.{sound-valid}
+use Rattle.model.proofs.Verdicts.{Refuses, both-sound, beside-sound, beside-refusal}
+use Rattle.codec.specs.declared.RowWords.{RowWords}
+use Rattle.codec.specs.Packing.{unpack}
+use Rattle.codec.specs.RowWords.{wordsAt}
+use Rattle.codec.specs.Rows.{tableWidths}
+use Rattle.sums.proofs.Scorable.{scorable}
+use Rattle.score.specs.declared.Scored.{Scored}
+use Rattle.score.specs.Scoring.{scoreVerdict, Scores}
+use Rattle.score.proofs.Permission.{sound-permitted}
+use Rattle.table_row.specs.declared.TableRow.{TableRow}
+use Rattle.table_row.specs.Table.{rowsIn}
+use Rattle.table_row.specs.Cut.{rowOf, rowAt}
+use Rattle.table_row.proofs.Cutting.{fields-of-words}
+use Rattle.ladder_line.specs.Lines.{rowLine}
+use Rattle.ladder_listing.specs.Listing.{lineOfRow}
+use Rattle.ladder_line.specs.Writing.{Printable}
+
+-- the row that is cut out of the table's words
+pub row-is : (table : List ℕ) (k : ℕ) {w : RowWords} {row : TableRow} → k < rowsIn table → w ≡ wordsAt table k → row ≡ rowOf (unpack tableWidths (w .high * 2 ^ 64 + w .low)) → row ≡ rowAt table k
+row-is table k h e f = f ∙ ap (λ (x : RowWords). rowOf (unpack tableWidths (x .high * 2 ^ 64 + x .low))) e ∙ ap rowOf (fields-of-words table k h)
+
+-- periods that score
+pub scored-printable : (p : Profile) (ts : List Seconds) {s : Scored} → Scores p ts s → s .verdict ≡ Sound → Printable ts (p .n)
+unfolding scoreVerdict
+scored-printable p ts s e =
+    let both = both-sound (verdictOf p) (sym (s .verdict) ∙ e) in
+    let v = sound-valid p (both .0) in
+    let permitted = sound-permitted 0 (seconds 1) _ _ (length-entries noJob (p .jobs) 0 (p .n) ∙ sym (length-entries (seconds 0) ts 0 (p .n))) (both .1) in
+    record { few = v .n-to; each = λ i h. scorable p ts i v permitted h .to }
+
+module _ (p : Profile) (table : List ℕ) (k : ℕ) where
+  pub no-such-row : rowsIn table ≤ k → lineOfRow p table k ≡ []
+  unfolding lineOfRow
+  no-such-row h = rw (le-ltb k (rowsIn table) h)
+
+  module _ (there : k < rowsIn table) {row : TableRow} (is : row ≡ rowAt table k) {s : Scored} (scores : Scores p (row .periods) s) where
+    here : lineOfRow p table k ≡ ifSound (scoreVerdict p (row .periods)) (rowLine (row .start) (loss (jobsOf p) (periodsOf p (row .periods))) (periodsOf p (row .periods))) []
+    unfolding lineOfRow
+    here =
+        rw (lt-ltb k (rowsIn table) there)
+        (ap (λ (x : TableRow). ifSound (scoreVerdict p (x .periods)) (rowLine (x .start) (loss (jobsOf p) (periodsOf p (x .periods))) (periodsOf p (x .periods))) []) (sym is))
+
+    pub periods-refused : Refuses (s .verdict) → lineOfRow p table k ≡ []
+    periods-refused h = here ∙ sym (beside-refusal _ _ h (scores .verdict))
+
+    pub line-there : s .verdict ≡ Sound → rowLine (row .start) (s .loss) (periodsOf p (row .periods)) ≡ lineOfRow p table k
+    line-there e =
+        let sound = sym e ∙ scores .verdict in
+        ap (λ (x : ℕ). rowLine (row .start) x (periodsOf p (row .periods))) (scores .loss ∙ sym (beside-sound _ _ sound))
+        ∙ beside-sound _ _ sound
+        ∙ sym here

@@ -1,0 +1,216 @@
+-- `table_check::first_bad_row` meets its contract: before each turn the verdict is that of the rows, and of a row's places, still to come.
+-- Assumes nothing.
+use Prim.Native.Nat.{_-_, zero-le}
+use mathlib.Core.Path.{_≡_, _∙_, sym, ap}
+use mathlib.Core.Bool.{true}
+use native.Mathlib.Omega.{arith}
+use lib.ListN.{getD}
+use borrow.Author.Needs.{needs}
+use borrow.Author.Tests.{not-true, not-false}
+use Rattle.model.specs.Model.{seconds, pagesPerHour, noJob, allows}
+use Rattle.model.specs.Valid.{Valid}
+use Rattle.model.proofs.Validity.{job-valid-at}
+use Rattle.model.proofs.Allowing.{allowed}
+use Rattle.table_check.proofs.Turns.{RowsLeft, PlacesLeft, Scanned, first-rows, first-places, pages-fit, loss-fits, place-off, next-place, zeros-decide, scanned-row, no-more, place-fails, start-fails, order-fails, next-row}
+use Rattle.table_check.proofs.first_bad_row.Statement.{statement}
+use Rattle.table_check.proofs.first_bad_row.Tie as tie
+
+abbrev Inv-loop : tie.InvT-loop
+Inv-loop table p n rates rows start-before loss-before k start periods before₀ written₀ lost₀ i₀ before written lost i = PlacesLeft p periods before written lost i
+
+abbrev μ-loop : tie.MeasureT-loop
+μ-loop table p n rates rows start-before loss-before k start periods before₀ written₀ lost₀ i₀ before written lost i = n - i
+
+abbrev Inv-rows : tie.InvT-rows
+Inv-rows table p n rates rows start-before₀ loss-before₀ k₀ start-before loss-before k = RowsLeft p table rows start-before loss-before k
+
+abbrev μ-rows : tie.MeasureT-rows
+μ-rows table p n rates rows start-before₀ loss-before₀ k₀ start-before loss-before k = rows - k
+
+valid : (c : tie.At-loop Inv-loop μ-loop Inv-rows μ-rows) → Valid (c .before .before .before .before .before .before .before .before .args .t1)
+valid c = c .before .before .before .before .before .before .before .before .pre
+
+-- a period that did not leave the loops is allowed
+passed : (c : tie.Else2 Inv-loop μ-loop Inv-rows μ-rows) → allows (getD (c .before .before .before .before .before .before .before .before .before .before .before .before .before .args .t1 .jobs) (c .before .before .before .before .before .loop .i) noJob) (c .before .before .before .before .before .loop .before) (getD (c .before .before .before .before .before .before .before .before .row-at .result .periods) (c .before .before .before .before .before .loop .i) (seconds 0)) ≡ true
+passed c = sym (c .before .allowed .ensures) ∙ not-false _ (c .if2 .left)
+
+-- past the loop over a row's periods and past the zeros, its need and its loss are known
+scanned : (c : tie.After-need-of Inv-loop μ-loop Inv-rows μ-rows) → Scanned (c .before .before .before .before .before .before .before .before .before .before .before .before .args .t1) (c .before .before .before .before .before .before .before .before .before .before .before .before .args .table .now) (c .before .before .before .before .before .before .before .before .before .rows .k) (c .before .before .before .before .before .before .before .row-at .result) (c .need-of .result) (c .before .before .before .before .loop .lost)
+scanned c =
+    let z = c .before .before in
+    let l = z .before .before in
+    rw (c .need-of .ensures) (scanned-row (valid l) (l .before .before .before .row-at .ensures) (l .loop .inv) (z .before .loop-test .left) (sym (z .zeros-from .ensures) ∙ not-false _ (c .before .if3 .left)))
+
+cast-n : tie.Need-cast-n Inv-loop μ-loop Inv-rows μ-rows
+cast-n c = search needs
+
+rates-of-requires : tie.Need-rates-of-requires Inv-loop μ-loop Inv-rows μ-rows
+rates-of-requires c κs = search needs
+
+rows-holds : tie.Need-rows-holds Inv-loop μ-loop Inv-rows μ-rows
+rows-holds c = first-rows _ _ _ _ _
+
+row-at-requires : tie.Need-row-at-requires Inv-loop μ-loop Inv-rows μ-rows
+row-at-requires c κs = search needs
+
+loop-holds : tie.Need-loop-holds Inv-loop μ-loop Inv-rows μ-rows
+loop-holds c = first-places _ _
+
+mul-j : tie.Need-mul-j Inv-loop μ-loop Inv-rows μ-rows
+mul-j c = search needs
+
+element-copy-out-j : tie.Need-element-copy-out-j Inv-loop μ-loop Inv-rows μ-rows
+element-copy-out-j c = omega (arith, valid (c .before) .n-to)
+
+mul-t : tie.Need-mul-t Inv-loop μ-loop Inv-rows μ-rows
+mul-t c = search needs
+
+array-copy-out-t : tie.Need-array-copy-out-t Inv-loop μ-loop Inv-rows μ-rows
+array-copy-out-t c = omega (arith, valid (c .before .before) .n-to)
+
+allowed-requires : tie.Need-allowed-requires Inv-loop μ-loop Inv-rows μ-rows
+allowed-requires c κs = c .before .before .before .loop .inv .from
+
+add-bad : tie.Need-add-bad Inv-loop μ-loop Inv-rows μ-rows
+add-bad c = search needs
+
+mul-fastest : tie.Need-mul-fastest Inv-loop μ-loop Inv-rows μ-rows
+mul-fastest c = search needs
+
+array-read-fastest : tie.Need-array-read-fastest Inv-loop μ-loop Inv-rows μ-rows
+array-read-fastest c = omega (arith, valid (c .before .before .before .before .before) .n-to)
+
+written-with-requires : tie.Need-written-with-requires Inv-loop μ-loop Inv-rows μ-rows
+written-with-requires c κs =
+    let i = c .before .before .before .before in
+    let l = i .before in
+    let j = job-valid-at _ (l .loop .i) (valid l) (i .loop-test .taken) in
+    (j, pages-fit (valid l) (l .loop .inv), omega (arith, allowed _ (l .loop .before) _ (passed c) .below, j .hi-to))
+
+job-loss-requires : tie.Need-job-loss-requires Inv-loop μ-loop Inv-rows μ-rows
+job-loss-requires c κs =
+    let e = c .before in
+    let i = e .before .before .before .before in
+    let l = i .before in
+    (job-valid-at _ (l .loop .i) (valid l) (i .loop-test .taken), allowed _ (l .loop .before) _ (passed e) .above, ap pagesPerHour (l .before .before .before .before .before .before .rates-of .ensures .fastest (l .loop .i) zero-le (i .loop-test .taken)))
+
+add-lost : tie.Need-add-lost Inv-loop μ-loop Inv-rows μ-rows
+add-lost c =
+    let e = c .before .before in
+    let i = e .before .before .before .before in
+    omega (arith, loss-fits (valid (i .before)) (i .before .loop .inv) (i .loop-test .taken) (passed e), c .job-loss .ensures)
+
+add-i : tie.Need-add-i Inv-loop μ-loop Inv-rows μ-rows
+add-i c = search needs
+
+loop-less : tie.Need-loop-less Inv-loop μ-loop Inv-rows μ-rows
+loop-less c = search needs
+
+loop-again : tie.Need-loop-again Inv-loop μ-loop Inv-rows μ-rows
+loop-again c =
+    let e = c .before .before in
+    let i = e .before .before .before .before in
+    rw (c .before .written-with .ensures, c .job-loss .ensures) (next-place (valid (i .before)) (i .before .loop .inv) (i .loop-test .taken) (passed e))
+
+zeros-from-requires : tie.Need-zeros-from-requires Inv-loop μ-loop Inv-rows μ-rows
+zeros-from-requires c κs = search needs
+
+add-bad-2 : tie.Need-add-bad-2 Inv-loop μ-loop Inv-rows μ-rows
+add-bad-2 c = search needs
+
+need-of-requires : tie.Need-need-of-requires Inv-loop μ-loop Inv-rows μ-rows
+need-of-requires c κs =
+    let l = c .before .before .before in
+    pages-fit (valid l) (l .loop .inv)
+
+add-bad-3 : tie.Need-add-bad-3 Inv-loop μ-loop Inv-rows μ-rows
+add-bad-3 c = search needs
+
+may-follow-requires : tie.Need-may-follow-requires Inv-loop μ-loop Inv-rows μ-rows
+may-follow-requires c κs = search needs
+
+add-bad-4 : tie.Need-add-bad-4 Inv-loop μ-loop Inv-rows μ-rows
+add-bad-4 c = search needs
+
+add-k : tie.Need-add-k Inv-loop μ-loop Inv-rows μ-rows
+add-k c = search needs
+
+rows-less : tie.Need-rows-less Inv-loop μ-loop Inv-rows μ-rows
+rows-less c = search needs
+
+rows-again : tie.Need-rows-again Inv-loop μ-loop Inv-rows μ-rows
+rows-again c =
+    let s = c .before .before .before .before .before in
+    let r = s .before .before .before .before .before .before .before .before in
+    next-row (r .before .rows .inv) (r .if1 .left) (scanned s) (c .before .before .if4 .left) (c .before .may-follow .ensures) (c .if5 .left)
+
+returns : tie.Need-returns Inv-loop μ-loop Inv-rows μ-rows
+returns c = no-more (c .before .rows .inv) (c .if1 .taken)
+
+returns-2 : tie.Need-returns-2 Inv-loop μ-loop Inv-rows μ-rows
+returns-2 c =
+    let i = c .before .before .before .before in
+    let l = i .before in
+    let r = l .before .before .before in
+    place-fails (r .before .before .rows .inv) (r .before .if1 .left) (r .row-at .ensures) (place-off (valid l) (l .loop .inv) (i .loop-test .taken) (sym (c .before .allowed .ensures) ∙ not-true _ (c .if2 .taken)))
+
+returns-3 : tie.Need-returns-3 Inv-loop μ-loop Inv-rows μ-rows
+returns-3 c =
+    let z = c .before in
+    let l = z .before .before in
+    let r = l .before .before .before in
+    place-fails (r .before .before .rows .inv) (r .before .if1 .left) (r .row-at .ensures) (zeros-decide (l .loop .inv) (z .before .loop-test .left) ∙ sym (z .zeros-from .ensures) ∙ not-true _ (c .if3 .taken))
+
+returns-4 : tie.Need-returns-4 Inv-loop μ-loop Inv-rows μ-rows
+returns-4 c =
+    let s = c .before .before .before in
+    let r = s .before .before .before .before .before .before .before .before in
+    start-fails (r .before .rows .inv) (r .if1 .left) (scanned s) (c .if4 .taken)
+
+returns-5 : tie.Need-returns-5 Inv-loop μ-loop Inv-rows μ-rows
+returns-5 c =
+    let s = c .before .before .before .before .before in
+    let r = s .before .before .before .before .before .before .before .before in
+    order-fails (r .before .rows .inv) (r .if1 .left) (scanned s) (c .before .before .if4 .left) (c .before .may-follow .ensures) (c .if5 .taken)
+
+pub first-bad-row-spec : {M : Type 1} → statement M
+first-bad-row-spec =
+    tie.close
+    (tie.spec
+    Inv-loop
+    μ-loop
+    Inv-rows
+    μ-rows
+    cast-n
+    rates-of-requires
+    rows-holds
+    row-at-requires
+    loop-holds
+    mul-j
+    element-copy-out-j
+    mul-t
+    array-copy-out-t
+    allowed-requires
+    add-bad
+    mul-fastest
+    array-read-fastest
+    written-with-requires
+    job-loss-requires
+    add-lost
+    add-i
+    loop-less
+    loop-again
+    zeros-from-requires
+    add-bad-2
+    need-of-requires
+    add-bad-3
+    may-follow-requires
+    add-bad-4
+    add-k
+    rows-less
+    rows-again
+    returns
+    returns-2
+    returns-3
+    returns-4
+    returns-5)

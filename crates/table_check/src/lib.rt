@@ -1,0 +1,63 @@
+// A lent table, checked row by row: the first of its rows that is not good.
+//
+// specs/Checks.antt says what the checks ask; a table's rows and the tests of one stand in crate table_row. The function serves
+// other crates of the planner, and its callers meet what it requires. Nothing is assumed.
+use model::PagesPerHour;
+use model::Profile;
+use model::Seconds;
+ghost use mathlib.Core.Path.{_≡_};
+ghost use Rattle.model.specs.Valid.{Valid};
+ghost use Rattle.table_row.specs.Table.{rowsIn};
+ghost use Rattle.table_check.specs.Checks.{firstBad};
+
+// The first bad row, from 1, or 0 where every row is good: the label leaves both loops at the first broken rule.
+// `before` is the last of a row's first i periods; in that time they have `written` so many pages, and they have `lost` so
+// much. Carried along so, need and loss take two divisions for each job and one for the row.
+pub fn first_bad_row(p: Profile, table: &[u8]) -> usize
+    requires { ⌜ Valid p ⌝ }
+    ensures { λ r. ⌜ r ≡ firstBad p (now (table .entry)) 0 (rowsIn (now (table .entry))) ⌝ }
+{
+    let n = p.n as usize;
+    let rates = walk::rates_of(p);
+    let rows = table.len() / 16;
+    let mut start_before = PagesPerHour(0);
+    let mut loss_before: u64 = 0;
+    let mut k: usize = 0;
+    let bad = 'rows: loop {
+        if rows <= k {
+            break 'rows 0;
+        }
+        let row = table_row::row_at(table, k);
+        let start = row.start;
+        let periods = row.periods;
+        let mut before = Seconds(1);
+        let mut written: u64 = 0;
+        let mut lost: u64 = 0;
+        let mut i: usize = 0;
+        while i < n {
+            let j = p.jobs[i];
+            let t = periods[i];
+            if !model::allowed(j, before, t) {
+                break 'rows k + 1;
+            }
+            let fastest = rates[i];
+            written = table_row::written_with(j, written, before, t);
+            lost += table_row::job_loss(j, PagesPerHour(fastest), t);
+            before = t;
+            i += 1;
+        }
+        if !table_row::zeros_from(periods, i) {
+            break 'rows k + 1;
+        }
+        if walk::need_of(written, before).0 != start.0 {
+            break 'rows k + 1;
+        }
+        if !table_row::may_follow(k, start_before, loss_before, start, lost) {
+            break 'rows k + 1;
+        }
+        start_before = start;
+        loss_before = lost;
+        k += 1;
+    };
+    bad
+}

@@ -1,0 +1,162 @@
+// The next answers of a table in one walk: it fills a staircase of plans in rising loss and falling need.
+//
+// specs/Next.antt says what the next answers are, specs/Steps.antt what the private functions ask and promise. They serve
+// other crates of the planner, and their callers meet what is required. Nothing is assumed.
+use model::PagesPerHour;
+use model::Profile;
+use model::Seconds;
+use table_stairs::BOUND;
+use table_stairs::COUNT;
+ghost use mathlib.Core.Path.{_≡_};
+ghost use Prim.Native.Nat.{_^_, _≤_, _<_};
+ghost use lib.ListN.{length};
+ghost use Rattle.model.specs.Valid.{Valid};
+ghost use Rattle.walk.specs.Steps.{Ready};
+ghost use Rattle.table_stairs.specs.Rows.{Standing};
+ghost use Rattle.table_climb.specs.Next.{AnswersBelow};
+ghost use Rattle.table_climb.specs.Steps.{Climbs, Begins, Collects};
+
+// More than any loss.
+const NO_BOUND: u64 = 0xffff_ffff_ffff_ffff;
+
+// The next answers for the budgets below `limit` go to the front of `rows`, at most 256 of them in rising loss and falling
+// need; answers how many.
+pub fn answers_below(p: Profile, limit: u64, rows: &mut [u64; 768]) -> usize
+    requires { ⌜ Valid p ⌝ }
+    requires { ⌜ 0 < limit ⌝ }
+    requires { ⌜ limit ≤ 2 ^ 32 ⌝ }
+    requires { ⌜ length (now rows) ≡ 768 ⌝ }
+    ensures { λ r. ⌜ AnswersBelow p limit r (now (rows .exit)) ⌝ }
+{
+    let seconds = walk::seconds_of(p);
+    let pages = walk::pages_of(p);
+    let rates = walk::rates_of(p);
+    let stiffnesses = walk::stiffnesses_of(p);
+    next_answers(
+        &seconds,
+        &pages,
+        &rates,
+        &stiffnesses,
+        p.n as usize,
+        PagesPerHour((limit - 1) as u32),
+        rows,
+    )
+}
+
+// The same under a budget: the profile's numbers are lent as arrays.
+fn next_answers(
+    seconds: &[u32; 16],
+    pages: &[u32; 16],
+    rates: &[u32; 17],
+    stiffnesses: &[u32; 8],
+    n: usize,
+    budget: PagesPerHour,
+    rows: &mut [u64; 768],
+) -> usize
+    requires { ⌜ Begins (now seconds) (now pages) (now rates) (now stiffnesses) n ⌝ }
+    requires { ⌜ length (now rows) ≡ 768 ⌝ }
+    ensures { λ r. ⌜ Collects (now (seconds .entry)) (now (pages .entry)) (now (rates .entry)) (now (stiffnesses .entry)) n budget r (now (rows .exit)) ⌝ }
+{
+    let mut periods = [0u32; 8];
+    let mut marks = [0u64; 2];
+    marks[BOUND] = NO_BOUND;
+    find_stairs(
+        seconds,
+        pages,
+        rates,
+        stiffnesses,
+        0,
+        n,
+        budget,
+        Seconds(1),
+        0,
+        0,
+        &mut periods,
+        rows,
+        &mut marks,
+    );
+    marks[COUNT] as usize
+}
+
+// Tries all permitted plans that begin with the first i of `periods`, multiples in rising order, and lets those enter that
+// may. `step` is the last of these periods; in that time they have `written` so many pages, and they have `lost` so much.
+fn find_stairs(
+    seconds: &[u32; 16],
+    pages: &[u32; 16],
+    rates: &[u32; 17],
+    stiffnesses: &[u32; 8],
+    i: usize,
+    n: usize,
+    budget: PagesPerHour,
+    step: Seconds,
+    written: u64,
+    lost: u64,
+    periods: &mut [u32; 8],
+    rows: &mut [u64; 768],
+    marks: &mut [u64; 2],
+)
+    requires { ⌜ Ready (now seconds) (now pages) (now rates) (now stiffnesses) i n step written lost ⌝ }
+    requires { ⌜ Standing n (now periods) (now rows) (now marks) ⌝ }
+    ensures { λ _. ⌜ Climbs (now (seconds .entry)) (now (pages .entry)) (now (rates .entry)) (now (stiffnesses .entry)) i n budget step written lost (now (periods .entry)) (now (periods .exit)) (now (rows .entry)) (now (rows .exit)) (now (marks .entry)) (now (marks .exit)) ⌝ }
+{
+    if i == n {
+        table_stairs::enter_plan(n, budget, step, written, lost, periods, rows, marks);
+        return;
+    }
+    let lo = seconds[i];
+    let hi = seconds[8 + i];
+    let own = pages[i] as u64;
+    let first = (lo + (step.0 - 1)) / step.0;
+    let mut t = first * step.0;
+    while t <= hi {
+        let here = lost
+            + walk::job_loss(
+                stiffnesses[i],
+                PagesPerHour(rates[i]),
+                pages[8 + i],
+                Seconds(t),
+            );
+        let floor = here
+            + walk::loss_floor(seconds, pages, rates, stiffnesses, i + 1, n, Seconds(t));
+        if marks[BOUND] <= floor {
+            return;
+        }
+        let a = t / step.0;
+        let next = t + step.0;
+        if walk::repeats(pages, i, a, first) {
+            t = next;
+            continue;
+        }
+        let more = written * (a as u64) + own;
+        if table_stairs::may_enter(
+            seconds,
+            rates,
+            i + 1,
+            n,
+            budget,
+            Seconds(t),
+            more,
+            floor,
+            rows,
+            marks,
+        ) {
+            periods[i] = t;
+            find_stairs(
+                seconds,
+                pages,
+                rates,
+                stiffnesses,
+                i + 1,
+                n,
+                budget,
+                Seconds(t),
+                more,
+                here,
+                periods,
+                rows,
+                marks,
+            );
+        }
+        t = next;
+    }
+}

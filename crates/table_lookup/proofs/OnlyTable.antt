@@ -1,0 +1,108 @@
+-- No other bytes answer every budget as choosing does: each row read is the answer to its own start, and each answer is a row read.
+-- Assumes nothing.
+use mathlib.Core.Path.{_≡_, refl, sym, _∙_, ap, subst}
+use mathlib.Core.List.{List, List·Memᴰ, Memᴰ·cast}
+use Prim.Native.Nat.{ℕ, _*_, _^_, _<_}
+use native.Mathlib.Nat.{le-refl}
+use native.Mathlib.Omega.{arith}
+use lib.ListN.{take}
+use borrow.Author.Tests.{eqb-false}
+use Rattle.model.specs.declared.Seconds.{Seconds}
+use Rattle.model.specs.declared.PagesPerHour.{PagesPerHour}
+use Rattle.model.specs.declared.Job.{Job}
+use Rattle.model.specs.declared.Profile.{Profile}
+use Rattle.model.specs.declared.Counted.{Counted}
+use Rattle.model.specs.declared.Verdict.the-variants.{Sound}
+use Rattle.model.specs.Model.{pagesPerHour, jobsOf, periodsOf, Best, numberOf}
+use Rattle.model.specs.Valid.{Valid}
+use Rattle.model.proofs.Validity.{valid-sound}
+use Rattle.codec.proofs.Bytes.{Bytes}
+use Rattle.choose.specs.declared.Choice.{Choice}
+use Rattle.choose.specs.Choice.{answered, Outcome, given, none-permitted, none-fit, Chosen}
+use Rattle.table.specs.Table.{TableOf, tableBytes, Built}
+use Rattle.table.specs.Descent.{rowsBelow, allBudgets, readTable}
+use Rattle.table.proofs.Best.{need-small}
+use Rattle.table.proofs.Descent.{descent-table}
+use Rattle.table.proofs.OneOutcome.{table-one}
+use Rattle.table.proofs.Reading.{table-answers}
+use Rattle.table_row.specs.Table.{rowsIn, startAt}
+use Rattle.table_lookup.specs.Formed.{WellFormed, Answers}
+use Rattle.table_lookup.specs.Lookup.{lastWithin}
+use Rattle.table_lookup.proofs.Formed.{passes-formed}
+use Rattle.table_lookup.proofs.Finding.{found-answers, one-answers}
+use Rattle.table_lookup.proofs.Laid.{few-jobs, unpadded}
+use Rattle.table_lookup.proofs.LookedUp.{LooksUpAs, built-holds}
+use Rattle.table_lookup.proofs.RowsRead.{listAt, rowsRead, read-member, member-place, starts-climb, read-rising, formed-bytes}
+
+-- Every 32-bit budget is looked up in these bytes as it is chosen for.
+abbrev pub LooksUpAll : Profile → List ℕ → Type 0
+LooksUpAll p bytes = (b : PagesPerHour) → b .0 < 2 ^ 32 → (c : Choice) → Chosen p b c → LooksUpAs p bytes b c
+
+-- choosing is never refused with 12
+no-twelve : {js : List Job} {b : PagesPerHour} {c : Choice} → Outcome js b c → numberOf (c .verdict) ≡ 12 → ⊥
+no-twelve (given best) e = eqb-false 0 12 refl e
+no-twelve (none-permitted no-list) e = eqb-false 9 12 refl e
+no-twelve (none-fit l unfit) e = eqb-false 10 12 refl e
+
+module _ (p : Profile) (v : Valid p) where
+  outcome-chosen : {b : PagesPerHour} {c : Choice} → Outcome (jobsOf p) b c → Chosen p b c
+  outcome-chosen o = record { own = λ refused. absurd (refused (valid-sound p v)); sound = λ e. o }
+
+  -- every budget has its answer
+  some-outcome : (b : PagesPerHour) → b .0 < 2 ^ 32 → Outcome (jobsOf p) b (readTable (jobsOf p) (rowsBelow (jobsOf p) allBudgets) b)
+  some-outcome b small = table-answers (jobsOf p) (v .jobs) (few-jobs p v) (rowsBelow (jobsOf p) allBudgets) (descent-table (jobsOf p) (v .jobs)) b small
+
+  module _ (bytes : List ℕ) (same : LooksUpAll p bytes) where
+    pub all-formed : WellFormed p bytes
+    all-formed =
+        let o = some-outcome (pagesPerHour 0) (omega arith) in
+        passes-formed p bytes (pagesPerHour 0) v (λ e. no-twelve o (ap numberOf (sym (same (pagesPerHour 0) (omega arith) _ (outcome-chosen o) .verdict)) ∙ e))
+
+    module _ {b : PagesPerHour} (small : b .0 < 2 ^ 32) {ts : List Seconds} (best : Best (jobsOf p) b ts) where
+      as-chosen : LooksUpAs p bytes b (answered (jobsOf p) ts)
+      as-chosen = same b small (answered (jobsOf p) ts) (outcome-chosen (given best))
+
+      found : Answers bytes b (lastWithin bytes b (rowsIn bytes))
+      found = found-answers p bytes b (as-chosen .verdict)
+
+      found-best : listAt p bytes (lastWithin bytes b (rowsIn bytes)) ≡ ts
+      found-best = ap (periodsOf p) (as-chosen .row refl .periods) ∙ unpadded p ts (best .permitted)
+
+      best-read : List·Memᴰ ts (rowsRead p bytes)
+      best-read = Memᴰ·cast (sym found-best) (read-member p bytes _ (found .there))
+
+    module _ (i : ℕ) (less : i < rowsIn bytes) where
+      start-small : startAt bytes i .0 < 2 ^ 32
+      start-small =
+          let good = all-formed .rows i less .alone in
+          omega (arith, good .start, need-small (jobsOf p) (listAt p bytes i) (v .jobs) (few-jobs p v) (good .permitted))
+
+      -- a row answers its own start
+      own-start : Answers bytes (startAt bytes i) i
+      own-start = record { there = less; within = le-refl _; last = λ j after to. starts-climb p bytes all-formed j i after to }
+
+      row-best : Best (jobsOf p) (startAt bytes i) (listAt p bytes i)
+      row-best = go (some-outcome (startAt bytes i) start-small)
+        where
+          go : {c : Choice} → Outcome (jobsOf p) (startAt bytes i) c → Best (jobsOf p) (startAt bytes i) (listAt p bytes i)
+          go (given best) = subst (Best (jobsOf p) (startAt bytes i)) (sym (found-best start-small best) ∙ ap (listAt p bytes) (one-answers bytes (startAt bytes i) _ i (found start-small best) own-start)) best
+          go (none-permitted no-list) = absurd (no-list _ (all-formed .rows i less .alone .permitted))
+          go (none-fit l unfit) = absurd (unfit _ (all-formed .rows i less .alone .permitted) (omega (arith, all-formed .rows i less .alone .start)))
+
+    -- the rows read are the table
+    pub read-table : TableOf (jobsOf p) (rowsRead p bytes)
+    read-table = record {
+      some-budget = λ ts m. (let r = member-place p bytes m in (startAt bytes (r .0), start-small (r .0) (r .1), subst (Best (jobsOf p) (startAt bytes (r .0))) (r .2) (row-best (r .0) (r .1))));
+      every-budget = λ b ts small best. best-read small best;
+      rising = read-rising p bytes all-formed;
+    }
+
+-- Bytes in which every budget is looked up as it is chosen for are the bytes of the profile's table.
+pub only-table : (p : Profile) → Valid p → (bytes : List ℕ) → Bytes bytes → LooksUpAll p bytes → {rows : List (List Seconds)} → TableOf (jobsOf p) rows → bytes ≡ tableBytes (jobsOf p) rows
+only-table p v bytes h same t = sym (formed-bytes p bytes (all-formed p v bytes same) h) ∙ ap (tableBytes (jobsOf p)) (table-one (jobsOf p) (read-table p v bytes same) t)
+
+-- So they are what `build_table` writes.
+pub only-built : (p : Profile) (old : List ℕ) {r : Counted} {new : List ℕ} → Built p old r new → r .verdict ≡ Sound → (bytes : List ℕ) → Bytes bytes → LooksUpAll p bytes → bytes ≡ take (16 * r .count) new
+only-built p old built e bytes h same =
+    let held = built-holds p old built e in
+    only-table p (held .valid) bytes h same (held .table) ∙ sym (held .is)

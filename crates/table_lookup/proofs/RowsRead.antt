@@ -1,0 +1,148 @@
+-- A well-formed table is the bytes of the rows read in it: each row's bits are cut there and back.
+-- Assumes nothing.
+use mathlib.Core.Path.{_≡_, refl, sym, _∙_, ap, ap₂, subst}
+use mathlib.Core.List.{List, [], _∷_, _++_, map, List·Memᴰ, List·Memᴰ·head, List·Memᴰ·tail, List·Memᴰ·not-nil, List·Memᴰ·cases-cons}
+use mathlib.Core.Logic.{⊎-elim}
+use Prim.Native.Nat.{ℕ, zero, suc, _+_, _*_, _-_, _≤_, _<_}
+use native.Mathlib.Nat.{add-zero, eq-or-lt-of-le, not-suc-le-zero, le-of-suc-le-suc}
+use native.Mathlib.Decide.{decLt}
+use native.Mathlib.Omega.{arith}
+use lib.ListN.{length, getD, take, drop, length-drop, length-map, take-append-drop, drop-of-length-le, List·getD-eq-default}
+use lib.Seq.{drop-cons, drop-drop}
+use Rattle.model.specs.declared.Seconds.{Seconds}
+use Rattle.model.specs.declared.Profile.{Profile}
+use Rattle.model.specs.Model.{seconds, entries, jobsOf, periodsOf, need}
+use Rattle.model.proofs.Entries.{length-entries}
+use Rattle.codec.specs.Packing.{recut}
+use Rattle.codec.specs.Layout.{byteWidths}
+use Rattle.codec.specs.Rows.{tableWidths, tableRow}
+use Rattle.codec.proofs.Packing.{Within, recut-back, length-recut}
+use Rattle.codec.proofs.Bytes.{Bytes, within-split}
+use Rattle.table.specs.Table.{Rising, tableBytes}
+use Rattle.table.proofs.TableRows.{same-entries}
+use Rattle.table_row.specs.Table.{rowsIn, rowFields, startAt, periodsAt}
+use Rattle.table_lookup.specs.Formed.{GoodAlone, WellFormed}
+use Rattle.table_lookup.proofs.Laid.{row-bits, all-entries}
+
+-- Bytes and fields.
+
+numbers-again : (xs : List ℕ) → map (λ t. t .0) (map seconds xs) ≡ xs
+numbers-again [] = refl
+numbers-again (x ∷ xs) = ap (λ (l : List ℕ). x ∷ l) (numbers-again xs)
+
+length-fields : (bytes : List ℕ) (k : ℕ) → length (rowFields bytes k) ≡ 9
+unfolding rowFields
+length-fields bytes k = length-recut (byteWidths 16) tableWidths (take 16 (drop (16 * k) bytes))
+
+length-periods : (bytes : List ℕ) (k : ℕ) → length (periodsAt bytes k) ≡ 8
+length-periods bytes k = length-map (drop 1 (rowFields bytes k)) seconds ∙ length-drop 1 (rowFields bytes k) ∙ omega (arith, length-fields bytes k)
+
+sixteen-within : (bytes : List ℕ) (k : ℕ) → Bytes bytes → k < rowsIn bytes → Within (byteWidths 16) (take 16 (drop (16 * k) bytes))
+sixteen-within bytes k h less =
+    let rest = length bytes - (16 * k + 16) in
+    let size : length bytes ≡ 16 * k + (16 + rest) = omega arith in
+    within-split 16 rest _ (within-split (16 * k) (16 + rest) bytes (subst (λ (n : ℕ). Within (byteWidths n) bytes) size h) .1) .0
+
+-- the sixteen bytes at a place are the row of the start and periods read there
+pub row-kept : (bytes : List ℕ) (k : ℕ) → Bytes bytes → k < rowsIn bytes → tableRow (startAt bytes k) (periodsAt bytes k) ≡ take 16 (drop (16 * k) bytes)
+unfolding tableRow rowFields
+row-kept bytes k h less =
+    let fs = rowFields bytes k in
+    let periods = ap (map (λ t. t .0)) (all-entries (periodsAt bytes k) 8 (length-periods bytes k)) ∙ numbers-again (drop 1 fs) in
+    let fields = ap (λ (l : List ℕ). getD fs 0 0 ∷ l) periods ∙ sym (drop-cons fs 0 0 (omega (arith, length-fields bytes k))) in
+    ap (recut tableWidths (byteWidths 16)) fields ∙ recut-back (byteWidths 16) tableWidths (take 16 (drop (16 * k) bytes)) (sym row-bits) (sixteen-within bytes k h less)
+
+-- Rows.
+
+-- the list of periods in row k
+abbrev pub listAt : Profile → List ℕ → ℕ → List Seconds
+listAt p bytes k = periodsOf p (periodsAt bytes k)
+
+-- those of m rows from row k on
+rowsFrom : Profile → List ℕ → ℕ → ℕ → List (List Seconds)
+rowsFrom p bytes k zero = []
+rowsFrom p bytes k (suc m) = listAt p bytes k ∷ rowsFrom p bytes (k + 1) m
+
+pub rowsRead : Profile → List ℕ → List (List Seconds)
+rowsRead p bytes = rowsFrom p bytes 0 (rowsIn bytes)
+
+getD-entries : (d : Seconds) (xs : List Seconds) (i n j : ℕ) → j < n → getD (entries d xs i n) j d ≡ getD xs (i + j) d
+unfolding entries
+getD-entries d xs i zero j less = absurd (not-suc-le-zero less)
+getD-entries d xs i (suc n) zero less = ap (λ (k : ℕ). getD xs k d) (sym (add-zero i))
+getD-entries d xs i (suc n) (suc j) less =
+    let place : i + 1 + j ≡ i + suc j = omega arith in
+    getD-entries d xs (i + 1) n j (le-of-suc-le-suc less) ∙ ap (λ (k : ℕ). getD xs k d) place
+
+module _ (p : Profile) (bytes : List ℕ) where
+  module _ (k : ℕ) (g : GoodAlone p bytes k) where
+    -- beyond n both have zeros
+    same-period : (j : ℕ) → Dec (j < p .n) → Dec (j < 8) → getD (listAt p bytes k) j (seconds 0) ≡ getD (periodsAt bytes k) j (seconds 0)
+    same-period j (yes less) in-eight = getD-entries (seconds 0) (periodsAt bytes k) 0 (p .n) j less ∙ ap (λ (i : ℕ). getD (periodsAt bytes k) i (seconds 0)) (omega arith)
+    same-period j (no past) (yes in-eight) = List·getD-eq-default (listAt p bytes k) (seconds 0) (omega (arith, length-entries (seconds 0) (periodsAt bytes k) 0 (p .n))) ∙ ap seconds (sym (g .zeros j (omega arith) in-eight))
+    same-period j (no past) (no beyond) = List·getD-eq-default (listAt p bytes k) (seconds 0) (omega (arith, length-entries (seconds 0) (periodsAt bytes k) 0 (p .n))) ∙ sym (List·getD-eq-default (periodsAt bytes k) (seconds 0) (omega (arith, length-periods bytes k)))
+
+    row-again : Bytes bytes → k < rowsIn bytes → tableRow (need (jobsOf p) (listAt p bytes k)) (listAt p bytes k) ≡ take 16 (drop (16 * k) bytes)
+    unfolding tableRow
+    row-again h less =
+        ap₂ (λ (q : ℕ) (ts : List Seconds). recut tableWidths (byteWidths 16) (q ∷ map (λ t. t .0) ts)) (g .start) (same-entries (listAt p bytes k) (periodsAt bytes k) 0 8 (λ j. same-period j (decLt j (p .n)) (decLt j 8)))
+        ∙ row-kept bytes k h less
+
+  bytes-from : (m k : ℕ) → length bytes ≡ 16 * (k + m) → Bytes bytes → ((i : ℕ) → i < rowsIn bytes → GoodAlone p bytes i) → tableBytes (jobsOf p) (rowsFrom p bytes k m) ≡ drop (16 * k) bytes
+  unfolding rowsFrom tableBytes
+  bytes-from zero k size h good = sym (drop-of-length-le bytes {i = 16 * k} (omega arith))
+  bytes-from (suc m) k size h good =
+      let here : k < rowsIn bytes = omega arith in
+      let next : 16 * (k + 1) ≡ 16 * k + 16 = omega arith in
+      ap₂ _++_ (row-again k (good k here) h here) (bytes-from m (k + 1) (size ∙ omega arith) h good ∙ ap (λ (n : ℕ). drop n bytes) next ∙ sym (drop-drop 16 (16 * k) bytes))
+      ∙ take-append-drop 16 (drop (16 * k) bytes)
+
+  read-from : (m k i : ℕ) → k ≤ i → i < k + m → List·Memᴰ (listAt p bytes i) (rowsFrom p bytes k m)
+  unfolding rowsFrom
+  read-from zero k i from to = absurd (omega arith)
+  read-from (suc m) k i from to = ⊎-elim (λ (e : k ≡ i). List·Memᴰ·head (ap (listAt p bytes) (sym e))) (λ (less : k < i). List·Memᴰ·tail (read-from m (k + 1) i (omega arith) (omega arith))) (eq-or-lt-of-le from)
+
+  place-from : (m k : ℕ) {ts : List Seconds} → List·Memᴰ ts (rowsFrom p bytes k m) → (i : ℕ) × (k ≤ i) × (i < k + m) × (listAt p bytes i ≡ ts)
+  unfolding rowsFrom
+  place-from zero k member = absurd (List·Memᴰ·not-nil member)
+  place-from (suc m) k {ts} member = ⊎-elim (λ (e : ts ≡ listAt p bytes k). (k, omega arith, omega arith, sym e)) (λ (later : List·Memᴰ ts (rowsFrom p bytes (k + 1) m)). go (place-from m (k + 1) later)) (List·Memᴰ·cases-cons member)
+    where
+      go : (i : ℕ) × (k + 1 ≤ i) × (i < k + 1 + m) × (listAt p bytes i ≡ ts) → (i : ℕ) × (k ≤ i) × (i < k + suc m) × (listAt p bytes i ≡ ts)
+      go r = (r .0, omega (arith, r .1), omega (arith, r .2), r .3)
+
+  pub read-member : (i : ℕ) → i < rowsIn bytes → List·Memᴰ (listAt p bytes i) (rowsRead p bytes)
+  unfolding rowsRead
+  read-member i less = read-from (rowsIn bytes) 0 i (omega arith) (omega arith)
+
+  pub member-place : {ts : List Seconds} → List·Memᴰ ts (rowsRead p bytes) → (i : ℕ) × (i < rowsIn bytes) × (listAt p bytes i ≡ ts)
+  unfolding rowsRead
+  member-place m =
+      let r = place-from (rowsIn bytes) 0 m in
+      (r .0, omega (arith, r .2), r .3)
+
+  module _ (w : WellFormed p bytes) where
+    pub starts-climb : (j i : ℕ) → i < j → j < rowsIn bytes → startAt bytes i .0 < startAt bytes j .0
+    starts-climb zero i after less = absurd (not-suc-le-zero after)
+    starts-climb (suc j) i after less =
+        let step : startAt bytes j .0 < startAt bytes (suc j) .0 = w .rows (suc j) less .after j (omega arith) .start in
+        ⊎-elim (λ (e : i ≡ j). subst (λ (n : ℕ). startAt bytes n .0 < startAt bytes (suc j) .0) (sym e) step) (λ (more : i < j). omega (arith, starts-climb j i more (omega arith))) (eq-or-lt-of-le (le-of-suc-le-suc after))
+
+    rising-from : (m k : ℕ) → k + m ≤ rowsIn bytes → Rising (jobsOf p) (rowsFrom p bytes k m)
+    unfolding rowsFrom
+    rising-from zero k room = tt
+    rising-from (suc m) k room = (after, rising-from m (k + 1) (omega arith))
+      where
+        after : (us : List Seconds) → List·Memᴰ us (rowsFrom p bytes (k + 1) m) → need (jobsOf p) (listAt p bytes k) .0 < need (jobsOf p) us .0
+        after us member =
+            let r = place-from m (k + 1) member in
+            let there : r .0 < rowsIn bytes = omega (arith, r .2) in
+            let here : k < rowsIn bytes = omega arith in
+            omega (arith, w .rows k here .alone .start, w .rows (r .0) there .alone .start, starts-climb (r .0) k (omega (arith, r .1)) there, ap (λ (l : List Seconds). need (jobsOf p) l .0) (r .3))
+
+    pub read-rising : Rising (jobsOf p) (rowsRead p bytes)
+    unfolding rowsRead
+    read-rising = rising-from (rowsIn bytes) 0 (omega arith)
+
+    pub formed-bytes : Bytes bytes → tableBytes (jobsOf p) (rowsRead p bytes) ≡ bytes
+    unfolding rowsRead
+    formed-bytes h = bytes-from (rowsIn bytes) 0 (omega (arith, w .whole)) h (λ i less. w .rows i less .alone)
