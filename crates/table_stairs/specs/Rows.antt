@@ -68,6 +68,17 @@ pub record LosesLess (flat : List ℕ) (k l r : ℕ) : Type 0 where
   pub less : 0 < r → lossIn flat (r - 1) < l
   pub no-less : r < k → l ≤ lossIn flat r
 
+-- So many rows, the first at place `first` and each `step` places behind the one before, stand in the array and do not fall in loss.
+pub record PlacesRise (first step times : ℕ) (flat : List ℕ) : Type 0 where
+  pub within : (x : ℕ) → x < times → first + step * x < most
+  pub rise : (x y : ℕ) → x ≤ y → y < times → lossIn flat (first + step * x) ≤ lossIn flat (first + step * y)
+
+-- The r-th of these is where losses of at least l begin.
+pub record PlacesLoseLess (flat : List ℕ) (first step times l r : ℕ) : Type 0 where
+  pub upto : r ≤ times
+  pub less : 0 < r → lossIn flat (first + step * (r - 1)) < l
+  pub no-less : r < times → l ≤ lossIn flat (first + step * r)
+
 -- Whether some of k rows has at most the need q and at most the loss l.
 pub record Covers (flat : List ℕ) (k q l : ℕ) (r : Bool) : Type 0 where
   pub some : r ≡ true → (a : ℕ) × (a < k) × (needIn flat a ≤ q) × (lossIn flat a ≤ l)

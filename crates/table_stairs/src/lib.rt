@@ -10,7 +10,7 @@ ghost use Prim.Native.Nat.{_≤_, _<_};
 ghost use lib.ListN.{length, getD};
 ghost use Rattle.walk.specs.Steps.{NeedFits, ReadyForCut};
 ghost use Rattle.table_stairs.specs.Stairs.{noBound};
-ghost use Rattle.table_stairs.specs.Rows.{highWord, lowWord, Periods, Fields, Rises, LosesLess, Covers, NeedsLess, Moved, Stored, Place, Standing, Puts, Enters, EntersNothing};
+ghost use Rattle.table_stairs.specs.Rows.{highWord, lowWord, Periods, Fields, Rises, LosesLess, PlacesRise, PlacesLoseLess, Covers, NeedsLess, Moved, Stored, Place, Standing, Puts, Enters, EntersNothing};
 
 // Where a row has its loss, behind its two words.
 const LOSS: usize = 2;
@@ -22,6 +22,9 @@ const NEED: u64 = 0x1_0000_0000;
 const MOST: usize = 256;
 
 const LAST_LOSS: usize = 767;
+
+// Rows are counted in blocks of so many.
+const BLOCK: usize = 16;
 
 // The marks: how many rows there are, and the bound on the loss of what may still enter.
 pub const COUNT: usize = 0;
@@ -147,22 +150,40 @@ fn covers(rows: &[u64; 768], count: usize, need: PagesPerHour, loss: u64) -> boo
     true
 }
 
-// How many rows lose less than `loss`, where rows rise in loss.
+// How many rows lose less than `loss`, where rows rise in loss: first of the last rows of whole blocks, then within the block
+// that is left. No branch depends on a loss, as each step of a search by halves would, and be foretold wrongly half the time.
 fn losing_less(rows: &[u64; 768], count: usize, loss: u64) -> usize
     requires { ⌜ count ≤ 256 ⌝ }
+    requires { ⌜ Rises count (now rows) ⌝ }
     ensures { λ r. ⌜ LosesLess (now (rows .entry)) count loss r ⌝ }
 {
-    let mut from: usize = 0;
-    let mut to = count;
-    while from < to {
-        let half = (from + to) / 2;
-        if rows[3 * half + LOSS] < loss {
-            from = half + 1;
-            continue;
-        }
-        to = half;
+    let from = BLOCK * places_losing_less(rows, BLOCK - 1, BLOCK, count / BLOCK, loss);
+    if count - from < BLOCK {
+        return from + places_losing_less(rows, from, 1, count - from, loss);
     }
-    from
+    from + places_losing_less(rows, from, 1, BLOCK, loss)
+}
+
+// How many of so many rows, the first at place `first` and each `step` places behind the one before, lose less than `loss`.
+fn places_losing_less(
+    rows: &[u64; 768],
+    first: usize,
+    step: usize,
+    times: usize,
+    loss: u64,
+) -> usize
+    requires { ⌜ PlacesRise first step times (now rows) ⌝ }
+    ensures { λ r. ⌜ PlacesLoseLess (now (rows .entry)) first step times loss r ⌝ }
+{
+    let mut less: usize = 0;
+    let mut x: usize = 0;
+    while x < times {
+        if rows[3 * (first + step * x) + LOSS] < loss {
+            less += 1;
+        }
+        x += 1;
+    }
+    less
 }
 
 // The first row from place i on that needs less.

@@ -1,82 +1,66 @@
--- `table_stairs::losing_less` meets its contract: the row before `from` loses less, and the row at `to` does not.
+-- `table_stairs::losing_less` meets its contract: the last rows of whole blocks are counted off, then the rows of one block.
 -- Assumes nothing.
-use Prim.Native.Nat.{ℕ, _+_, _-_, _≤_, _<_}
-use Rattle.table_stairs.specs.Rows.{lossIn}
-use mathlib.Core.Path.{_≡_}
-use mathlib.Core.List.{List}
 use borrow.Author.Needs.{needs}
 use native.Mathlib.Omega.{arith}
+use mathlib.Core.Path.{refl}
+use mathlib.Core.Logic.{inl, inr}
+use Rattle.table_stairs.proofs.Counting.{places-rise, block-less}
 use Rattle.table_stairs.proofs.losing_less.Statement.{statement}
 use Rattle.table_stairs.proofs.losing_less.Tie as tie
 
-row-before : (flat : List ℕ) (h l : ℕ) → lossIn flat h < l → lossIn flat (h + 1 - 1) < l
-row-before flat h l less = let e : h + 1 - 1 ≡ h = omega arith in rw e less
+sub-places-losing-less : tie.Need-sub-places-losing-less
+sub-places-losing-less c = search needs
 
-abbrev Inv-loop : tie.InvT-loop
-Inv-loop rows count loss from₀ to₀ from to = (from ≤ to) × (to ≤ count) × (0 < from → lossIn rows (from - 1) < loss) × (to < count → loss ≤ lossIn rows to)
+places-losing-less-requires : tie.Need-places-losing-less-requires
+places-losing-less-requires c κs = places-rise (c .pre .1) (c .pre .0) (omega arith) (λ x at. omega (arith, at))
 
-abbrev μ-loop : tie.MeasureT-loop
-μ-loop rows count loss from₀ to₀ from to = to - from
+mul-from : tie.Need-mul-from
+mul-from c = search needs
 
-loop-holds : tie.Need-loop-holds Inv-loop μ-loop
-loop-holds c = (omega arith, omega arith, λ h. absurd (omega arith), λ h. absurd (omega arith))
+sub-if1 : tie.Need-sub-if1
+sub-if1 c = search needs
 
-add-half : tie.Need-add-half Inv-loop μ-loop
-add-half c = search needs
+sub-places-losing-less-2 : tie.Need-sub-places-losing-less-2
+sub-places-losing-less-2 c = search needs
 
-mul-if1 : tie.Need-mul-if1 Inv-loop μ-loop
-mul-if1 c = search needs
+places-losing-less-requires-2 : tie.Need-places-losing-less-requires-2
+places-losing-less-requires-2 c κs =
+    let entry = c .before .before in
+    places-rise (entry .pre .1) (entry .pre .0) (omega arith) (λ x at. omega (arith, at))
 
-add-if1 : tie.Need-add-if1 Inv-loop μ-loop
-add-if1 c = search needs
+add-result : tie.Need-add-result
+add-result c = search needs
 
-mul-if1-2 : tie.Need-mul-if1-2 Inv-loop μ-loop
-mul-if1-2 c = search needs
-
-element-copy-out-if1 : tie.Need-element-copy-out-if1 Inv-loop μ-loop
-element-copy-out-if1 c = search needs
-
-add-from : tie.Need-add-from Inv-loop μ-loop
-add-from c = search needs
-
-loop-less : tie.Need-loop-less Inv-loop μ-loop
-loop-less c = search needs
-
-loop-again : tie.Need-loop-again Inv-loop μ-loop
-loop-again c =
-    let inv = c .before .before .before .loop .inv in
-    let rows = c .before .before .before .before .args .rows .now in
-    (omega arith, inv .1, λ h. row-before rows _ _ (c .if1 .taken), inv .3)
-
-loop-less-2 : tie.Need-loop-less-2 Inv-loop μ-loop
-loop-less-2 c = search needs
-
-loop-again-2 : tie.Need-loop-again-2 Inv-loop μ-loop
-loop-again-2 c =
-    let inv = c .before .before .before .loop .inv in
-    (omega arith, omega arith, inv .2, λ h. omega (arith, c .if1 .left))
-
-returns : tie.Need-returns Inv-loop μ-loop
+returns : tie.Need-returns
 returns c =
-    let l = c .before .loop in
-    let met : l .from ≡ l .to = omega arith in
-    record { upto = omega arith; less = l .inv .2; no-less = rw met (l .inv .3) }
+    let blocks = c .before .before .places-losing-less .ensures in
+    block-less blocks (omega (arith, blocks .upto)) (inr (omega (arith, blocks .upto))) (c .places-losing-less2 .ensures)
+
+places-losing-less-requires-3 : tie.Need-places-losing-less-requires-3
+places-losing-less-requires-3 c κs =
+    let entry = c .before .before in
+    places-rise (entry .pre .1) (entry .pre .0) (omega arith) (λ x at. omega (arith, at, c .if1 .left))
+
+add-result-2 : tie.Need-add-result-2
+add-result-2 c = search needs
+
+returns-2 : tie.Need-returns-2
+returns-2 c =
+    let blocks = c .before .before .places-losing-less .ensures in
+    block-less blocks (omega (arith, blocks .upto, c .before .if1 .left)) (inl refl) (c .places-losing-less3 .ensures)
 
 pub losing-less-spec : {M : Type 1} → statement M
 losing-less-spec =
     tie.close
     (tie.spec
-    Inv-loop
-    μ-loop
-    loop-holds
-    add-half
-    mul-if1
-    add-if1
-    mul-if1-2
-    element-copy-out-if1
-    add-from
-    loop-less
-    loop-again
-    loop-less-2
-    loop-again-2
-    returns)
+    sub-places-losing-less
+    places-losing-less-requires
+    mul-from
+    sub-if1
+    sub-places-losing-less-2
+    places-losing-less-requires-2
+    add-result
+    returns
+    places-losing-less-requires-3
+    add-result-2
+    returns-2)
