@@ -8,10 +8,11 @@ for A, their numbers P6 to P10 and their table of refusals; that of 4,096 rows i
 import pathlib
 import sys
 
-from hexadecimal import read_hex
 from rules import listing
 
 TOP = pathlib.Path(__file__).parent.parent
+sys.path.append(str(TOP / "tools"))
+from hexadecimal import read_hex
 
 
 def main():

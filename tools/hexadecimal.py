@@ -1,5 +1,5 @@
 #!/usr/bin/env python3
-"""tests/hexadecimal.py FILE: the bytes that stand in FILE in hexadecimal, as they are.
+"""tools/hexadecimal.py FILE: the bytes that stand in FILE in hexadecimal, as they are.
 
 # begins a comment, and * N after the bytes of a line has them N times.
 """
