@@ -14,11 +14,11 @@
 /* At most this many times the C walk, and at most a hundredth of enumeration. */
 static const double most_of_walk = 1.5, least_of_enumeration = 100;
 
-typedef uint64_t chooser(uint32_t, const uint32_t[40], uint32_t, uint64_t[10]);
+typedef uint64_t chooser(uint32_t, const uint32_t[], uint32_t, uint64_t[]);
 
-static double seconds_for(chooser *f, const uint32_t jobs[40], uint32_t budget, int times)
+static double seconds_for(chooser *f, const uint32_t jobs[], uint32_t budget, int times)
 {
-    uint64_t answer[10];
+    uint64_t answer[CHAROPLETH_CHOICE_LENGTH];
     double start = now();
     for (int i = 0; i < times; i++)
         f(8, jobs, budget, answer);
@@ -26,7 +26,7 @@ static double seconds_for(chooser *f, const uint32_t jobs[40], uint32_t budget, 
 }
 
 /* The best of several runs of each, by turns, so that what else the machine does falls on both. */
-static double ratio(const uint32_t jobs[40], uint32_t budget, double *each)
+static double ratio(const uint32_t jobs[], uint32_t budget, double *each)
 {
     int times = 1;
     while (seconds_for(walk_choose, jobs, budget, times) < 0.02)
@@ -43,9 +43,9 @@ static double ratio(const uint32_t jobs[40], uint32_t budget, double *each)
 
 static int failed;
 
-static void measure(const char *name, const uint32_t jobs[40], uint32_t budget, int enumerated)
+static void measure(const char *name, const uint32_t jobs[], uint32_t budget, int enumerated)
 {
-    uint64_t have[10] = {0}, want[10] = {0}, all[10] = {0};
+    uint64_t have[CHAROPLETH_CHOICE_LENGTH] = {0}, want[CHAROPLETH_CHOICE_LENGTH] = {0}, all[CHAROPLETH_CHOICE_LENGTH] = {0};
     uint64_t result = charopleth_choose(8, jobs, budget, have);
     if (result != walk_choose(8, jobs, budget, want) || memcmp(have, want, sizeof have) != 0) {
         printf("%s: the answers differ\n", name);
@@ -67,28 +67,39 @@ static void measure(const char *name, const uint32_t jobs[40], uint32_t budget, 
     fflush(stdout);
 }
 
-static void fix_last(uint32_t jobs[40], uint32_t t) { jobs[35] = jobs[36] = t; }
-
-static uint32_t greatest_need(const uint32_t jobs[40])
+static void fix_last(uint32_t jobs[], uint32_t t)
 {
-    uint64_t answer[10];
+    uint32_t *job = CHAROPLETH_JOB(jobs, 7);
+    job[CHAROPLETH_LO] = job[CHAROPLETH_HI] = t;
+}
+
+static void without_pages(uint32_t jobs[], uint32_t i)
+{
+    uint32_t *job = CHAROPLETH_JOB(jobs, i);
+    job[CHAROPLETH_DATA] = job[CHAROPLETH_METADATA] = 0;
+}
+
+static uint32_t greatest_need(const uint32_t jobs[])
+{
+    uint64_t answer[CHAROPLETH_CHOICE_LENGTH];
     charopleth_choose(8, jobs, 0xffffffff, answer);
-    return (uint32_t)answer[0];
+    return (uint32_t)answer[CHAROPLETH_NEED];
 }
 
 int main(void)
 {
     static const uint32_t parts[4] = {2, 10, 100, 1000};
-    uint32_t jobs[40];
+    uint32_t jobs[CHAROPLETH_JOBS_LENGTH];
     heavy_jobs(jobs, 1, 3600);
     for (int i = 0; i < 4; i++)
         measure("8 jobs [1,3600]", jobs, greatest_need(jobs) / parts[i], 1);
-    for (int i = 0; i < 6; i++)
-        jobs[5 * i + 2] = jobs[5 * i + 3] = 0;
+    for (uint32_t i = 0; i < 6; i++)
+        without_pages(jobs, i);
     for (int i = 0; i < 4; i++)
         measure("six of them without pages", jobs, greatest_need(jobs) / parts[i], 0);
+    put_jobs(jobs, one_writes);
     for (int i = 0; i < 4; i++)
-        measure("seven of eight without pages", one_writes, greatest_need(one_writes) / parts[i], 0);
+        measure("seven of eight without pages", jobs, greatest_need(jobs) / parts[i], 0);
     heavy_jobs(jobs, 1, 3600);
     fix_last(jobs, 3600);
     for (int i = 0; i < 4; i++)

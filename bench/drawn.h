@@ -25,9 +25,13 @@ static int rising(const void *a, const void *b)
     return x < y ? -1 : x > y;
 }
 
-static int by_lo(const void *a, const void *b) { return *(const uint32_t *)a < *(const uint32_t *)b ? -1 : *(const uint32_t *)a > *(const uint32_t *)b; }
+static int by_lo(const void *a, const void *b)
+{
+    const struct job *x = a, *y = b;
+    return x->lo < y->lo ? -1 : x->lo > y->lo;
+}
 
-static void draw_synthetic(uint32_t jobs[40])
+static void draw_synthetic(uint32_t jobs[])
 {
     /* One total use is 655 pages a second, so that no job has more than 65,534 pages a run. */
     double cuts[9] = {0};
@@ -35,13 +39,14 @@ static void draw_synthetic(uint32_t jobs[40])
     for (int i = 1; i < 8; i++)
         cuts[i] = uniform();
     qsort(cuts + 1, 7, sizeof *cuts, rising);
+    struct job drawn[8];
     for (int i = 0; i < 8; i++) {
         uint32_t lo = log_uniform(), hi = (uint32_t)(lo * (1 + 9 * uniform()));
         uint32_t pages = (uint32_t)((cuts[i + 1] - cuts[i]) * lo * 655);
-        uint32_t job[5] = {lo, hi, pages / 2, pages - pages / 2, 1 + below(32)};
-        memcpy(jobs + 5 * i, job, sizeof job);
+        drawn[i] = (struct job){.lo = lo, .hi = hi, .data = pages / 2, .metadata = pages - pages / 2, .stiffness = 1 + below(32)};
     }
-    qsort(jobs, 8, 5 * sizeof *jobs, by_lo);
+    qsort(drawn, 8, sizeof *drawn, by_lo);
+    put_jobs(jobs, drawn);
 }
 
 #endif

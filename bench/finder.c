@@ -1,5 +1,6 @@
 #include "finder.h"
 
+#include "jobs.h"
 #include "reference.h"
 #include "word.h"
 
@@ -46,7 +47,7 @@ static size_t first_bad_row(const struct numbers *j, const uint8_t *table, size_
     return 0;
 }
 
-uint64_t finder_lookup(uint32_t n, const uint32_t jobs[40], const uint8_t *table, size_t length, uint32_t budget)
+uint64_t finder_lookup(uint32_t n, const uint32_t jobs[], const uint8_t *table, size_t length, uint32_t budget)
 {
     uint64_t verdict = reference_judge(n, jobs);
     if (verdict != 0)
@@ -55,13 +56,13 @@ uint64_t finder_lookup(uint32_t n, const uint32_t jobs[40], const uint8_t *table
         return (uint64_t)12 << 48;
     struct numbers j = {.n = n};
     for (uint32_t i = 0; i < n; i++) {
-        const uint32_t *job = jobs + 5 * i;
-        j.lo[i] = job[0];
-        j.hi[i] = job[1];
-        j.pages[i] = job[2] + job[3];
+        struct job job = get_job(jobs, i);
+        j.lo[i] = job.lo;
+        j.hi[i] = job.hi;
+        j.pages[i] = job.data + job.metadata;
         j.hourly[i] = 3600 * j.pages[i];
-        j.fastest[i] = j.hourly[i] / job[0];
-        j.stiffness[i] = job[4];
+        j.fastest[i] = j.hourly[i] / job.lo;
+        j.stiffness[i] = job.stiffness;
     }
     size_t k = length / 16, bad = first_bad_row(&j, table, k);
     if (bad != 0)

@@ -6,6 +6,6 @@
 #include <stddef.h>
 #include <stdint.h>
 
-uint64_t finder_lookup(uint32_t n, const uint32_t jobs[40], const uint8_t *table, size_t length, uint32_t budget);
+uint64_t finder_lookup(uint32_t n, const uint32_t jobs[], const uint8_t *table, size_t length, uint32_t budget);
 
 #endif

@@ -1,5 +1,6 @@
 #include "lister.h"
 
+#include "jobs.h"
 #include "reference.h"
 #include "word.h"
 
@@ -54,15 +55,16 @@ static int next_zone(struct walk *w)
     return last != 0 && try_multiplier(w, last, w->multipliers[last] + w->multipliers[last - 1]);
 }
 
-uint64_t lister_zones(uint32_t n, const uint32_t jobs[40], uint8_t *room, size_t length)
+uint64_t lister_zones(uint32_t n, const uint32_t jobs[], uint8_t *room, size_t length)
 {
     uint64_t verdict = reference_judge(n, jobs), count = 0;
     if (verdict != 0)
         return verdict;
     struct walk w = {.n = n};
     for (uint32_t i = 0; i < n; i++) {
-        w.shortest[i] = jobs[5 * i];
-        w.longest[i] = jobs[5 * i + 1];
+        struct job job = get_job(jobs, i);
+        w.shortest[i] = job.lo;
+        w.longest[i] = job.hi;
     }
     for (int found = first_zone(&w); found; found = next_zone(&w))
         count++;

@@ -5,6 +5,6 @@
 #include <stddef.h>
 #include <stdint.h>
 
-uint64_t lister_zones(uint32_t n, const uint32_t jobs[40], uint8_t *room, size_t length);
+uint64_t lister_zones(uint32_t n, const uint32_t jobs[], uint8_t *room, size_t length);
 
 #endif

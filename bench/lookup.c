@@ -16,10 +16,10 @@ static const double most_of_finder = 1.3;
 enum { ROWS = 4096, LENGTH = 16 * ROWS };
 
 static uint8_t table[4 * LENGTH];
-static uint32_t jobs[40];
+static uint32_t jobs[CHAROPLETH_JOBS_LENGTH];
 static int failed;
 
-typedef uint64_t finder(uint32_t, const uint32_t[40], const uint8_t *, size_t, uint32_t);
+typedef uint64_t finder(uint32_t, const uint32_t[], const uint8_t *, size_t, uint32_t);
 
 static double seconds_for(finder *f, uint32_t budget, int times)
 {

@@ -20,27 +20,27 @@ enum { ROWS = 32768, SMALL = 4096, DRAWN = 1000 };
 static uint8_t have[16 * ROWS], want[16 * ROWS];
 static int failed;
 
-typedef uint64_t builder(uint32_t, const uint32_t[40], uint8_t *, size_t);
+typedef uint64_t builder(uint32_t, const uint32_t[], uint8_t *, size_t);
 
 /* The table by one choice per row, counted and then filled from its end. */
-static uint64_t by_choices(uint32_t n, const uint32_t jobs[40], uint8_t *room, size_t length)
+static uint64_t by_choices(uint32_t n, const uint32_t jobs[], uint8_t *room, size_t length)
 {
-    uint64_t answer[10], rows = 0, limit = (uint64_t)1 << 32, result = 0;
-    for (; limit > 0 && (result = charopleth_choose(n, jobs, (uint32_t)(limit - 1), answer)) == 0; limit = answer[0])
+    uint64_t answer[CHAROPLETH_CHOICE_LENGTH], rows = 0, limit = (uint64_t)1 << 32, result = 0;
+    for (; limit > 0 && (result = charopleth_choose(n, jobs, (uint32_t)(limit - 1), answer)) == 0; limit = answer[CHAROPLETH_NEED])
         rows++;
     if (rows == 0)
         return CHAROPLETH_REFUSAL(result) == 10 ? (uint64_t)9 << 48 : result;
     if (length / 16 < rows)
         return (uint64_t)11 << 48 | rows;
     limit = (uint64_t)1 << 32;
-    for (uint64_t row = rows; row-- > 0; limit = answer[0]) {
+    for (uint64_t row = rows; row-- > 0; limit = answer[CHAROPLETH_NEED]) {
         charopleth_choose(n, jobs, (uint32_t)(limit - 1), answer);
-        reference_row(answer[0], answer + 2, room + 16 * row);
+        reference_row(answer[CHAROPLETH_NEED], answer + CHAROPLETH_PERIODS, room + 16 * row);
     }
     return rows;
 }
 
-static double seconds_for(builder *f, const uint32_t jobs[40], uint8_t *room, size_t length, uint64_t *result)
+static double seconds_for(builder *f, const uint32_t jobs[], uint8_t *room, size_t length, uint64_t *result)
 {
     double start = now();
     *result = f(8, jobs, room, length);
@@ -48,7 +48,7 @@ static double seconds_for(builder *f, const uint32_t jobs[40], uint8_t *room, si
 }
 
 /* The time of the proved builder, and as a multiple of it that of another, whose answer and bytes must be the same. */
-static double against(const char *name, builder *other, const uint32_t jobs[40], size_t length, double proved, uint64_t answered)
+static double against(const char *name, builder *other, const uint32_t jobs[], size_t length, double proved, uint64_t answered)
 {
     uint64_t wanted;
     memset(want, 0xA5, sizeof want);
@@ -70,7 +70,7 @@ struct rival {
 static const struct rival choices = {"one choice per row", by_choices, 8}, uncut = {"the same in C without the cut", walk_table_uncut, 100};
 
 /* In room for so many rows: against C, and against a rival where one is given. */
-static void measure(const char *name, const uint32_t jobs[40], size_t rows, const struct rival *rival)
+static void measure(const char *name, const uint32_t jobs[], size_t rows, const struct rival *rival)
 {
     uint64_t answered;
     memset(have, 0xA5, sizeof have);
@@ -95,7 +95,7 @@ static void measure_drawn(void)
     uint64_t rows = 0;
     random_state = 20261115;
     for (int i = 0; i < DRAWN; i++) {
-        uint32_t jobs[40];
+        uint32_t jobs[CHAROPLETH_JOBS_LENGTH];
         uint64_t answered;
         draw_synthetic(jobs);
         memset(have, 0xA5, sizeof have);
@@ -115,12 +115,14 @@ static void measure_drawn(void)
 
 int main(void)
 {
-    uint32_t jobs[40];
+    uint32_t jobs[CHAROPLETH_JOBS_LENGTH];
     heavy_jobs(jobs, 1, 3600);
     measure("8 jobs [1,3600]", jobs, ROWS, &choices);
     measure("8 jobs [1,3600]", jobs, SMALL, 0);
-    measure("295,498 rows counted", many_rows, 0, 0);
-    measure("seven of eight without pages", one_writes, ROWS, &uncut);
+    put_jobs(jobs, many_rows);
+    measure("295,498 rows counted", jobs, 0, 0);
+    put_jobs(jobs, one_writes);
+    measure("seven of eight without pages", jobs, ROWS, &uncut);
     measure_drawn();
     printf(failed ? "bench: a bound is broken\n" : "bench: within %.1f x the same table in C\n", most_of_walk);
     return failed;

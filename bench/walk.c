@@ -2,6 +2,7 @@
 
 #include <string.h>
 
+#include "jobs.h"
 #include "reference.h"
 #include "word.h"
 
@@ -97,22 +98,22 @@ static uint32_t least_need(const struct walk *w, uint32_t i, uint32_t step, uint
 }
 
 /* The numbers of a walk, made once. */
-static struct walk prepared(uint32_t n, const uint32_t jobs[40], uint32_t budget)
+static struct walk prepared(uint32_t n, const uint32_t jobs[], uint32_t budget)
 {
     struct walk w = {.n = n, .budget = budget, .loss = UINT64_MAX};
     for (uint32_t k = n; k-- > 0;) {
-        const uint32_t *job = jobs + 5 * k;
-        w.lo[k] = job[0];
-        w.hi[k] = job[1];
-        w.need_pages[k] = w.loss_pages[k] = job[2] + job[3];
-        w.stiffness[k] = job[4];
+        struct job job = get_job(jobs, k);
+        w.lo[k] = job.lo;
+        w.hi[k] = job.hi;
+        w.need_pages[k] = w.loss_pages[k] = job.data + job.metadata;
+        w.stiffness[k] = job.stiffness;
         w.fastest[k] = 3600 * w.loss_pages[k] / w.lo[k];
         w.later[k] = w.later[k + 1] + 3600 * w.need_pages[k] / w.hi[k];
     }
     return w;
 }
 
-uint64_t walk_choose(uint32_t n, const uint32_t jobs[40], uint32_t budget, uint64_t answer[10])
+uint64_t walk_choose(uint32_t n, const uint32_t jobs[], uint32_t budget, uint64_t answer[])
 {
     uint64_t verdict = reference_judge(n, jobs);
     if (verdict != 0)
@@ -123,10 +124,10 @@ uint64_t walk_choose(uint32_t n, const uint32_t jobs[40], uint32_t budget, uint6
         uint32_t least = least_need(&w, 0, 1, 0, UINT32_MAX);
         return least == UINT32_MAX ? (uint64_t)9 << 48 : (uint64_t)10 << 48 | least;
     }
-    answer[0] = w.need;
-    answer[1] = w.loss;
+    answer[CHAROPLETH_NEED] = w.need;
+    answer[CHAROPLETH_LOSS] = w.loss;
     for (uint32_t k = 0; k < 8; k++)
-        answer[2 + k] = k < n ? w.best[k] : 0;
+        answer[CHAROPLETH_PERIODS + k] = k < n ? w.best[k] : 0;
     return 0;
 }
 
@@ -233,7 +234,7 @@ static void find_stairs(struct walk *w, struct stairs *s, uint32_t i, uint32_t s
     }
 }
 
-static void next_answers(uint32_t n, const uint32_t jobs[40], uint64_t limit, int without_cut, struct stairs *s)
+static void next_answers(uint32_t n, const uint32_t jobs[], uint64_t limit, int without_cut, struct stairs *s)
 {
     struct walk w = prepared(n, jobs, (uint32_t)(limit - 1));
     w.without_cut = without_cut;
@@ -242,7 +243,7 @@ static void next_answers(uint32_t n, const uint32_t jobs[40], uint64_t limit, in
     find_stairs(&w, s, 0, 1, 0, 0);
 }
 
-static uint64_t table(uint32_t n, const uint32_t jobs[40], uint8_t *room, size_t length, int without_cut)
+static uint64_t table(uint32_t n, const uint32_t jobs[], uint8_t *room, size_t length, int without_cut)
 {
     static const uint64_t all = (uint64_t)1 << 32;
     uint64_t verdict = reference_judge(n, jobs), rows = 0;
@@ -270,6 +271,6 @@ static uint64_t table(uint32_t n, const uint32_t jobs[40], uint8_t *room, size_t
     return rows;
 }
 
-uint64_t walk_table(uint32_t n, const uint32_t jobs[40], uint8_t *room, size_t length) { return table(n, jobs, room, length, 0); }
+uint64_t walk_table(uint32_t n, const uint32_t jobs[], uint8_t *room, size_t length) { return table(n, jobs, room, length, 0); }
 
-uint64_t walk_table_uncut(uint32_t n, const uint32_t jobs[40], uint8_t *room, size_t length) { return table(n, jobs, room, length, 1); }
+uint64_t walk_table_uncut(uint32_t n, const uint32_t jobs[], uint8_t *room, size_t length) { return table(n, jobs, room, length, 1); }

@@ -5,10 +5,10 @@
 #include <stddef.h>
 #include <stdint.h>
 
-uint64_t walk_choose(uint32_t n, const uint32_t jobs[40], uint32_t budget, uint64_t answer[10]);
-uint64_t walk_table(uint32_t n, const uint32_t jobs[40], uint8_t *room, size_t length);
+uint64_t walk_choose(uint32_t n, const uint32_t jobs[], uint32_t budget, uint64_t answer[]);
+uint64_t walk_table(uint32_t n, const uint32_t jobs[], uint8_t *room, size_t length);
 
 /* The same without the cut for jobs that have no pages. */
-uint64_t walk_table_uncut(uint32_t n, const uint32_t jobs[40], uint8_t *room, size_t length);
+uint64_t walk_table_uncut(uint32_t n, const uint32_t jobs[], uint8_t *room, size_t length);
 
 #endif

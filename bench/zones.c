@@ -9,16 +9,17 @@
 #include <string.h>
 
 #include "charopleth.h"
+#include "jobs.h"
 #include "lister.h"
 #include "timing.h"
 
 static const double most_of_lister = 1.5;
 
-typedef uint64_t lister(uint32_t, const uint32_t[40], uint8_t *, size_t);
+typedef uint64_t lister(uint32_t, const uint32_t[], uint8_t *, size_t);
 
 static int failed;
 
-static double seconds_for(lister *f, uint32_t n, const uint32_t jobs[40], uint8_t *room, size_t length, int times)
+static double seconds_for(lister *f, uint32_t n, const uint32_t jobs[], uint8_t *room, size_t length, int times)
 {
     double start = now();
     for (int i = 0; i < times; i++)
@@ -26,7 +27,7 @@ static double seconds_for(lister *f, uint32_t n, const uint32_t jobs[40], uint8_
     return now() - start;
 }
 
-static void measure(const char *name, uint32_t n, const uint32_t jobs[40], int times)
+static void measure(const char *name, uint32_t n, const uint32_t jobs[], int times)
 {
     size_t rows = (size_t)CHAROPLETH_DETAIL(charopleth_zones(n, jobs, 0, 0)), length = 16 * rows;
     uint8_t *have = malloc(length), *want = malloc(length);
@@ -49,7 +50,7 @@ static void measure(const char *name, uint32_t n, const uint32_t jobs[40], int t
     free(want);
 }
 
-static uint32_t worst[40];
+static uint32_t worst[CHAROPLETH_JOBS_LENGTH];
 
 /* Both list the worst profile, and alike. */
 static void *list_worst(void *unused)
@@ -65,11 +66,15 @@ static void *list_worst(void *unused)
 
 int main(void)
 {
-    static const uint32_t a[40] = {20, 25, 9, 1, 1, 43, 74, 18, 2, 1, 45, 100, 36, 4, 1};
-    for (int i = 0; i < 8; i++) {
-        uint32_t job[5] = {1, 3600, 1, 0, 1};
-        memcpy(worst + 5 * i, job, sizeof job);
-    }
+    static const struct job three[8] = {
+        {.lo = 20, .hi = 25, .data = 9, .metadata = 1, .stiffness = 1},
+        {.lo = 43, .hi = 74, .data = 18, .metadata = 2, .stiffness = 1},
+        {.lo = 45, .hi = 100, .data = 36, .metadata = 4, .stiffness = 1},
+    };
+    uint32_t a[CHAROPLETH_JOBS_LENGTH];
+    put_jobs(a, three);
+    for (uint32_t i = 0; i < 8; i++)
+        put_job(worst, i, (struct job){.lo = 1, .hi = 3600, .data = 1, .stiffness = 1});
     measure("zones of 8 jobs [1,3600]", 8, worst, 1);
     measure("zones of profile A", 3, a, 20000);
     pthread_t thread;

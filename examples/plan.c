@@ -23,7 +23,7 @@ static unsigned period(const uint8_t row[16], unsigned k)
     return k % 2 ? (b[1] & 15u) << 8 | b[2] : (unsigned)b[0] << 4 | b[1] >> 4;
 }
 
-static void look_up(const uint32_t values[41], uint64_t rows, uint32_t budget)
+static void look_up(const uint32_t values[], uint64_t rows, uint32_t budget)
 {
     printf("budget %" PRIu32 ": ", budget);
     uint64_t result = charopleth_lookup(values[0], values + 1, table, 16 * rows, budget);
@@ -39,7 +39,7 @@ static void look_up(const uint32_t values[41], uint64_t rows, uint32_t budget)
 
 int main(void)
 {
-    uint32_t values[41];
+    uint32_t values[CHAROPLETH_VALUES_LENGTH];
     uint64_t result = charopleth_read(profile, sizeof profile, values);
     if (CHAROPLETH_REFUSAL(result)) {
         refused(result);

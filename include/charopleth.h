@@ -1,9 +1,9 @@
 /* Charopleth: a proved planner for the write jobs of call recorders.
  *
- * A profile as values is n, the number of jobs, and 40 numbers, job after job, five for each: numbers 5i to 5i + 4 are lo,
- * hi, data, metadata and stiffness of job i, counted from 0. lo and hi are the shortest and the longest period in seconds,
- * data and metadata the pages of one run. Jobs beyond n are ignored. Every value may be given. Refused are, before all
- * else, n first, then the first bad job, and of a job what stands first here:
+ * A profile as values is n, the number of jobs, and the numbers of eight jobs, job after job, of each lo, hi, data, metadata
+ * and stiffness; names for their places stand below. lo and hi are the shortest and the longest period in seconds, data and
+ * metadata the pages of one run. Jobs beyond n are ignored. Every value may be given. Refused are, before all else, n first,
+ * then the first bad job, and of a job what stands first here:
  *
  *     3  n is 0 or above 8; the detail is 0
  *     5  lo is 0, hi below lo, or hi above 3,600; the detail of this and the next two is the job's number from 1
@@ -37,47 +37,71 @@ extern "C" {
 #define CHAROPLETH_REFUSAL(result) ((unsigned)((result) >> 48))
 #define CHAROPLETH_DETAIL(result) ((result) & 0xffffffffffffu)
 
-/* The values that a profile's bytes stand for. values: n, then the 40 numbers of its jobs, zeros beyond n, so that values[0]
+/* The numbers of a job, in their order. CHAROPLETH_JOB(jobs, i)[CHAROPLETH_HI] is hi of job i, counted from 0. */
+enum {
+    CHAROPLETH_LO,
+    CHAROPLETH_HI,
+    CHAROPLETH_DATA,
+    CHAROPLETH_METADATA,
+    CHAROPLETH_STIFFNESS,
+    CHAROPLETH_JOB_NUMBERS /* how many they are */
+};
+#define CHAROPLETH_JOB(jobs, i) ((jobs) + CHAROPLETH_JOB_NUMBERS * (i))
+
+/* The numbers of an answer, in their order. A score ends before the periods; a choice has one for each of eight jobs. */
+enum { CHAROPLETH_NEED, CHAROPLETH_LOSS, CHAROPLETH_PERIODS };
+
+/* The lengths of the arrays that are called jobs and values, and of the answers of scoring and choosing. */
+#define CHAROPLETH_MOST_JOBS 8
+#define CHAROPLETH_JOBS_LENGTH (CHAROPLETH_MOST_JOBS * CHAROPLETH_JOB_NUMBERS)
+#define CHAROPLETH_VALUES_LENGTH (1 + CHAROPLETH_JOBS_LENGTH)
+#define CHAROPLETH_SCORE_LENGTH CHAROPLETH_PERIODS
+#define CHAROPLETH_CHOICE_LENGTH (CHAROPLETH_PERIODS + CHAROPLETH_MOST_JOBS)
+
+/* The values that a profile's bytes stand for. values: n, then the numbers of its jobs, zeros beyond n, so that values[0]
  * and values + 1 are what the other functions take. Returns 0 where they were read. The bytes hold 4 bits of edition, 4 of n,
  * then for each job 12 bits of lo, 12 of hi, 15 of data, 15 of metadata, 6 of stiffness and 4 spare, most significant first.
  * Refuses 1 where there are no bytes, 2 where the edition is not 1, 3 as above, 4 where length is not 1 + 8n; then the first
  * bad job, 5 and 6 as above, then 7 where its spare bits are not zero, with its number from 1. */
-uint64_t charopleth_read(const uint8_t *profile, size_t length, uint32_t values[41]);
+uint64_t charopleth_read(const uint8_t *profile, size_t length, uint32_t values[CHAROPLETH_VALUES_LENGTH]);
 
 /* A profile's bytes at the front of `room`. Returns their number, 1 + 8n; bytes after them are untouched. Refuses 11 where
  * length is too small, with the number needed. */
-uint64_t charopleth_write(uint32_t n, const uint32_t jobs[40], uint8_t *room, size_t length);
+uint64_t charopleth_write(uint32_t n, const uint32_t jobs[CHAROPLETH_JOBS_LENGTH], uint8_t *room, size_t length);
 
 /* What given periods need and lose. periods: eight numbers of seconds, of which those beyond n are ignored. answer: the need
  * in pages per hour, and the loss. Returns 0 where they were scored. Refuses 13 with the number, from 1, of the first job
  * whose period is outside its interval or no multiple of the period before. */
-uint64_t charopleth_score(uint32_t n, const uint32_t jobs[40], const uint32_t periods[8], uint64_t answer[2]);
+uint64_t charopleth_score(uint32_t n, const uint32_t jobs[CHAROPLETH_JOBS_LENGTH],
+                          const uint32_t periods[CHAROPLETH_MOST_JOBS], uint64_t answer[CHAROPLETH_SCORE_LENGTH]);
 
 /* The best periods for a budget of flash pages per hour: among permitted periods that fit it those with the least loss, on
  * equal loss the least need, on equal need the list that is smaller at its first difference. answer: the need in pages per
  * hour, the loss, and eight periods in seconds, 0 beyond n. Returns 0 where periods were chosen. Refuses 9 where no periods
  * are permitted, and 10 where none fit the budget, with the least budget that would do. */
-uint64_t charopleth_choose(uint32_t n, const uint32_t jobs[40], uint32_t budget, uint64_t answer[10]);
+uint64_t charopleth_choose(uint32_t n, const uint32_t jobs[CHAROPLETH_JOBS_LENGTH], uint32_t budget,
+                           uint64_t answer[CHAROPLETH_CHOICE_LENGTH]);
 
 /* The harmonic zones of a profile: lists of multipliers 1, a2 .. an, each a multiple of the one before, with all first periods
  * for which the multiples lie in the jobs' intervals, at least one. A row of sixteen bytes each, at the front of `room`: least
  * and greatest first period and the multipliers a2 to a8, 12 bits each, then 20 zero bits; multipliers beyond n are 0. By a2,
  * then a3, and so on, rising. Returns the number of rows; bytes after them are untouched. Refuses 9 where there are none, and
  * 11 where length / 16 rows are too few, with the number needed. */
-uint64_t charopleth_zones(uint32_t n, const uint32_t jobs[40], uint8_t *room, size_t length);
+uint64_t charopleth_zones(uint32_t n, const uint32_t jobs[CHAROPLETH_JOBS_LENGTH], uint8_t *room, size_t length);
 
 /* The budget table of a profile, a row of sixteen bytes for each different best answer as the budget goes through all 32-bit
  * numbers, at the front of `room`: start 32 bits, which is the answer's need and the least budget that gets it, then eight
  * periods of 12 bits, 0 beyond n. By rising start. Returns the number of rows; bytes after them are untouched. Refuses 9 where
  * no periods are permitted, and 11 where length / 16 rows are too few, with the number needed. */
-uint64_t charopleth_table(uint32_t n, const uint32_t jobs[40], uint8_t *room, size_t length);
+uint64_t charopleth_table(uint32_t n, const uint32_t jobs[CHAROPLETH_JOBS_LENGTH], uint8_t *room, size_t length);
 
 /* The row of a lent table that answers a budget: the last whose start is at most that. The table need not be complete, but it
  * is checked in full before it is believed: each row has permitted periods with zeros beyond n, a start equal to their need,
  * and a greater start and a smaller loss than the row before. Returns the row's number, counted from 1, so that its sixteen
  * bytes begin at table + 16 * (number - 1). Refuses 12 with the number of the first row that is not so, or with 0 where length
  * is not a positive multiple of 16, then 10 where the first start is above the budget, with that start. */
-uint64_t charopleth_lookup(uint32_t n, const uint32_t jobs[40], const uint8_t *table, size_t length, uint32_t budget);
+uint64_t charopleth_lookup(uint32_t n, const uint32_t jobs[CHAROPLETH_JOBS_LENGTH], const uint8_t *table, size_t length,
+                           uint32_t budget);
 
 #ifdef __cplusplus
 }

@@ -8,11 +8,13 @@
 
 static const uint64_t guard = 0x5aa5c33c96691ee1u;
 
-/* Twelve numbers: the answer between two guards. All of them must stand as the reference leaves them. */
-static int same(uint32_t n, const uint32_t jobs[40], uint32_t budget, uint64_t *result)
+enum { GUARDED = 1 + CHAROPLETH_CHOICE_LENGTH + 1 };
+
+/* The answer between two guards. All numbers must stand as the reference leaves them. */
+static int same(uint32_t n, const uint32_t jobs[], uint32_t budget, uint64_t *result)
 {
-    uint64_t have[12], want[12];
-    for (int i = 0; i < 12; i++)
+    uint64_t have[GUARDED], want[GUARDED];
+    for (int i = 0; i < GUARDED; i++)
         have[i] = want[i] = guard + i;
     *result = reference_choose(n, jobs, budget, want + 1, 40000);
     if (*result == REFERENCE_LONG)
@@ -23,7 +25,7 @@ static int same(uint32_t n, const uint32_t jobs[40], uint32_t budget, uint64_t *
     printf("n %" PRIu32 " budget %" PRIu32 "\n", n, budget);
     show_jobs(jobs);
     printf("answered %016" PRIx64 ", where the reference has %016" PRIx64 "\n", answered, *result);
-    for (int i = 0; i < 12; i++)
+    for (int i = 0; i < GUARDED; i++)
         printf("%" PRIu64 " %" PRIu64 "\n", have[i], want[i]);
     return 0;
 }
@@ -31,13 +33,11 @@ static int same(uint32_t n, const uint32_t jobs[40], uint32_t budget, uint64_t *
 /* Profiles that go deepest: eight jobs, wide intervals, one that nothing meets. */
 static void deepest(void)
 {
-    uint64_t answer[10];
+    uint64_t answer[CHAROPLETH_CHOICE_LENGTH];
     for (uint32_t last = 3593; last <= 3600; last += 7) {
-        uint32_t jobs[40];
-        for (uint32_t i = 0; i < 8; i++) {
-            uint32_t job[5] = {i < 7 ? 1 : last, i < 7 ? 3600 : last, 13000 + 2000 * i, 13000, 1 + 4 * i};
-            memcpy(jobs + 5 * i, job, sizeof job);
-        }
+        uint32_t jobs[CHAROPLETH_JOBS_LENGTH];
+        for (uint32_t i = 0; i < 8; i++)
+            put_job(jobs, i, (struct job){.lo = i < 7 ? 1 : last, .hi = i < 7 ? 3600 : last, .data = 13000 + 2000 * i, .metadata = 13000, .stiffness = 1 + 4 * i});
         for (int bits = 0; bits < 32; bits += 2)
             charopleth_choose(8, jobs, 1u << bits, answer);
     }
@@ -54,7 +54,7 @@ static void *compare(void *given)
     uint64_t done = 0, told[16] = {0};
     deepest();
     while (done < task->count) {
-        uint32_t jobs[40];
+        uint32_t jobs[CHAROPLETH_JOBS_LENGTH];
         uint32_t n = draw_profile(jobs);
         if (below(5) == 0)
             n = break_profile(n, jobs);

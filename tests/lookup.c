@@ -9,7 +9,7 @@ enum { MOST_ROWS = 4096, MOST = 16 * MOST_ROWS, LONG = 20000, SWEPT = 20, SWEPT_
 
 /* A profile and the bytes that are looked up in; `kept` is a copy that tells whether they were touched. */
 struct lookup {
-    uint32_t n, jobs[40];
+    uint32_t n, jobs[CHAROPLETH_JOBS_LENGTH];
     uint64_t length;
     uint8_t table[MOST + 16], kept[MOST + 16];
 };
@@ -46,12 +46,12 @@ static uint32_t draw_budget(void)
 /* The row of a whole table is what the reference chooses, and its refusal is the choice's. */
 static int as_chosen(uint32_t budget)
 {
-    uint64_t result, answer[10] = {0};
+    uint64_t result, answer[CHAROPLETH_CHOICE_LENGTH] = {0};
     if (!same(budget, &result))
         return 0;
     uint64_t chosen = reference_choose(l.n, l.jobs, budget, answer, LONG);
     uint8_t row[16];
-    reference_row(answer[0], answer + 2, row);
+    reference_row(answer[CHAROPLETH_NEED], answer + CHAROPLETH_PERIODS, row);
     int equal = chosen ? chosen == result : !CHAROPLETH_REFUSAL(result) && memcmp(l.table + 16 * (result - 1), row, 16) == 0;
     if (!equal)
         printf("lookup: budget %" PRIu32 ": row %016" PRIx64 " is not the choice\n", budget, result);
@@ -63,15 +63,15 @@ static int as_chosen(uint32_t budget)
 static void insert(void)
 {
     uint32_t list[8];
-    uint64_t scores[2], periods[8], row = 0;
+    uint64_t scores[CHAROPLETH_SCORE_LENGTH], periods[8], row = 0;
     if (!draw_periods(l.n, l.jobs, list) || l.length > MOST - 16 || reference_score(l.n, l.jobs, list, scores) != 0)
         return;
     for (int i = 0; i < 8; i++)
         periods[i] = list[i];
-    while (row < l.length / 16 && start_of(row) < scores[0])
+    while (row < l.length / 16 && start_of(row) < scores[CHAROPLETH_NEED])
         row++;
     memmove(l.table + 16 * row + 16, l.table + 16 * row, l.length - 16 * row);
-    reference_row(scores[0], periods, l.table + 16 * row);
+    reference_row(scores[CHAROPLETH_NEED], periods, l.table + 16 * row);
     l.length += 16;
 }
 

@@ -4,11 +4,11 @@
 #include "reference.h"
 #include "report.h"
 
-enum { GUARD = 8, MOST = 80, NUMBERS = 41 };
+enum { GUARD = 8, MOST = 80, NUMBERS = CHAROPLETH_VALUES_LENGTH, SCORES = CHAROPLETH_SCORE_LENGTH };
 
 static uint64_t told[3][16];
 
-static int tell(const char *name, int kind, uint32_t n, const uint32_t jobs[40], uint64_t answered, uint64_t result, int equal)
+static int tell(const char *name, int kind, uint32_t n, const uint32_t jobs[], uint64_t answered, uint64_t result, int equal)
 {
     told[kind][CHAROPLETH_REFUSAL(result)]++;
     if (equal && answered == result)
@@ -19,7 +19,7 @@ static int tell(const char *name, int kind, uint32_t n, const uint32_t jobs[40],
 }
 
 /* Into a room of `length` bytes between two guards. */
-static int written_alike(uint32_t n, const uint32_t jobs[40], uint64_t length, uint8_t bytes[MOST])
+static int written_alike(uint32_t n, const uint32_t jobs[], uint64_t length, uint8_t bytes[MOST])
 {
     uint8_t have[MOST + 2 * GUARD], want[MOST + 2 * GUARD];
     for (int i = 0; i < MOST + 2 * GUARD; i++)
@@ -29,8 +29,8 @@ static int written_alike(uint32_t n, const uint32_t jobs[40], uint64_t length, u
     return tell("write", 0, n, jobs, answered, result, memcmp(have, want, sizeof have) == 0);
 }
 
-/* Into 41 numbers between two guards. */
-static int read_alike(const uint8_t *bytes, uint64_t length, const uint32_t jobs[40], uint32_t values[NUMBERS])
+/* Into the numbers of n and its jobs, between two guards. */
+static int read_alike(const uint8_t *bytes, uint64_t length, const uint32_t jobs[], uint32_t values[NUMBERS])
 {
     uint32_t have[NUMBERS + 2 * GUARD], want[NUMBERS + 2 * GUARD];
     for (int i = 0; i < NUMBERS + 2 * GUARD; i++)
@@ -40,15 +40,17 @@ static int read_alike(const uint8_t *bytes, uint64_t length, const uint32_t jobs
     return tell("read", 1, (uint32_t)length, jobs, answered, result, memcmp(have, want, sizeof have) == 0);
 }
 
-static int scored_alike(uint32_t n, const uint32_t jobs[40], const uint32_t periods[8])
+static int scored_alike(uint32_t n, const uint32_t jobs[], const uint32_t periods[8])
 {
-    uint64_t have[4] = {1, 2, 3, 4}, want[4] = {1, 2, 3, 4};
-    uint64_t result = reference_score(n, jobs, periods, want + 1), answered = charopleth_score(n, jobs, periods, have + 1);
+    uint64_t have[SCORES + 2 * GUARD], want[SCORES + 2 * GUARD];
+    for (int i = 0; i < SCORES + 2 * GUARD; i++)
+        have[i] = want[i] = 1 + (uint64_t)i;
+    uint64_t result = reference_score(n, jobs, periods, want + GUARD), answered = charopleth_score(n, jobs, periods, have + GUARD);
     return tell("score", 2, n, jobs, answered, result, memcmp(have, want, sizeof have) == 0);
 }
 
 /* Periods for the jobs, anything beyond them, and every second time one number changed. */
-static void draw_numbers(uint32_t n, const uint32_t jobs[40], uint32_t periods[8])
+static void draw_numbers(uint32_t n, const uint32_t jobs[], uint32_t periods[8])
 {
     draw_periods(n, jobs, periods);
     for (uint32_t i = n; i < 8; i++)
@@ -72,14 +74,14 @@ int main(int argc, char **argv)
     static const char *const names[3] = {"write", "read", "score"};
     uint64_t count = take_arguments(argc, argv);
     for (uint64_t done = 0; done < count; done++) {
-        uint32_t jobs[40], periods[8], values[NUMBERS], n = draw_profile(jobs);
+        uint32_t jobs[CHAROPLETH_JOBS_LENGTH], periods[8], values[NUMBERS], n = draw_profile(jobs);
         uint8_t bytes[MOST];
         uint64_t length = 1 + 8 * (uint64_t)n;
         if (!written_alike(n, jobs, length - below(2) * below(10), bytes) || !written_alike(n, jobs, length + below(6), bytes))
             return 1;
         if (!read_alike(bytes, length, jobs, values))
             return 1;
-        if (values[0] != n || memcmp(values + 1, jobs, 5 * n * sizeof *jobs) != 0) {
+        if (values[0] != n || memcmp(values + 1, jobs, CHAROPLETH_JOB_NUMBERS * n * sizeof *jobs) != 0) {
             printf("read: not what was written\n");
             return 1;
         }

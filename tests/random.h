@@ -5,6 +5,8 @@
 #include <stdint.h>
 #include <string.h>
 
+#include "jobs.h"
+
 static uint64_t random_state;
 
 static uint64_t draw(void)
@@ -29,7 +31,7 @@ static uint32_t draw_pages(void)
     }
 }
 
-static void draw_job(uint32_t job[5])
+static struct job draw_job(void)
 {
     uint32_t lo, hi;
     switch (below(5)) {
@@ -39,15 +41,15 @@ static void draw_job(uint32_t job[5])
     case 3: lo = 1; hi = 1 + below(24); break;
     default: lo = 1 + below(3600); hi = lo + below(3601 - lo); break;
     }
-    job[0] = smaller(lo, 3600);
-    job[1] = smaller(hi, 3600);
-    job[2] = draw_pages();
-    job[3] = draw_pages();
-    job[4] = 1 + below(32);
+    struct job job = {.lo = smaller(lo, 3600), .hi = smaller(hi, 3600)};
+    job.data = draw_pages();
+    job.metadata = draw_pages();
+    job.stiffness = 1 + below(32);
+    return job;
 }
 
 /* Intervals around a list of multiples, so that some periods are permitted. */
-static void plant(uint32_t jobs[40], uint32_t n)
+static void plant(uint32_t jobs[], uint32_t n)
 {
     uint32_t t = 1 + below(1u << (1 + below(7)));
     for (uint32_t i = 0; i < n; i++) {
@@ -56,32 +58,34 @@ static void plant(uint32_t jobs[40], uint32_t n)
             t *= times;
         uint32_t wide = 1 + t / (1 + below(8));
         uint32_t down = below(wide);
-        jobs[5 * i] = down < t ? t - down : 1;
-        jobs[5 * i + 1] = smaller(t + below(wide), 3600);
+        uint32_t *job = CHAROPLETH_JOB(jobs, i);
+        job[CHAROPLETH_LO] = down < t ? t - down : 1;
+        job[CHAROPLETH_HI] = smaller(t + below(wide), 3600);
     }
 }
 
 /* A valid profile. Jobs beyond n hold anything. */
-static inline uint32_t draw_profile(uint32_t jobs[40])
+static inline uint32_t draw_profile(uint32_t jobs[])
 {
     uint32_t n = 1 + below(8);
     for (uint32_t i = 0; i < 8; i++)
-        draw_job(jobs + 5 * i);
+        put_job(jobs, i, draw_job());
     if (below(4))
         plant(jobs, n);
-    for (uint32_t i = 5 * n; i < 40; i++)
+    for (uint32_t i = CHAROPLETH_JOB_NUMBERS * n; i < CHAROPLETH_JOBS_LENGTH; i++)
         jobs[i] = below(2) ? (uint32_t)draw() : below(4000);
     return n;
 }
 
 /* Periods for a valid profile, each a multiple of the one before and none too short, zeros beyond n; whether they are permitted. */
-static inline int draw_periods(uint32_t n, const uint32_t jobs[40], uint32_t periods[8])
+static inline int draw_periods(uint32_t n, const uint32_t jobs[], uint32_t periods[8])
 {
     uint32_t before = 1;
     int permitted = 1;
     memset(periods, 0, 8 * sizeof *periods);
     for (uint32_t i = 0; i < n; i++) {
-        uint32_t least = (jobs[5 * i] + before - 1) / before, most = jobs[5 * i + 1] / before;
+        struct job job = get_job(jobs, i);
+        uint32_t least = (job.lo + before - 1) / before, most = job.hi / before;
         permitted = permitted && least <= most;
         before = periods[i] = before * (least + (least < most ? below(most - least + 1) : 0));
     }
@@ -96,13 +100,13 @@ static uint32_t draw_edge(void)
 }
 
 /* Breaks some values of a profile. */
-static inline uint32_t break_profile(uint32_t n, uint32_t jobs[40])
+static inline uint32_t break_profile(uint32_t n, uint32_t jobs[])
 {
     for (uint32_t k = 1 + below(3); k > 0; k--) {
         if (below(6) == 0)
             n = draw_edge();
         else
-            jobs[below(40)] = draw_edge();
+            jobs[below(CHAROPLETH_JOBS_LENGTH)] = draw_edge();
     }
     return n;
 }

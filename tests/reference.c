@@ -3,21 +3,21 @@
 #include <stdlib.h>
 #include <string.h>
 
-enum { LO, HI, DATA, METADATA, STIFFNESS };
+#include "jobs.h"
 
 static uint64_t refusal(uint64_t number, uint64_t detail) { return number << 48 | detail; }
 
-uint64_t reference_judge(uint32_t n, const uint32_t jobs[40])
+uint64_t reference_judge(uint32_t n, const uint32_t jobs[])
 {
     if (n == 0 || n > 8)
         return refusal(3, 0);
     for (uint32_t i = 0; i < n; i++) {
-        const uint32_t *job = jobs + 5 * i;
-        if (job[LO] == 0 || job[HI] < job[LO] || job[HI] > 3600)
+        struct job job = get_job(jobs, i);
+        if (job.lo == 0 || job.hi < job.lo || job.hi > 3600)
             return refusal(5, i + 1);
-        if (job[STIFFNESS] < 1 || job[STIFFNESS] > 32)
+        if (job.stiffness < 1 || job.stiffness > 32)
             return refusal(6, i + 1);
-        if (job[DATA] > 32767 || job[METADATA] > 32767)
+        if (job.data > 32767 || job.metadata > 32767)
             return refusal(8, i + 1);
     }
     return 0;
@@ -42,37 +42,39 @@ static uint32_t get_field(const uint8_t *bytes, int at, int width)
 }
 
 /* lo, hi, data, metadata, stiffness, spare. */
-static const int record_widths[6] = {12, 12, 15, 15, 6, 4};
+enum { FIELDS = 6 };
+static const int record_widths[FIELDS] = {12, 12, 15, 15, 6, 4};
 
-uint64_t reference_read(const uint8_t *profile, uint64_t length, uint32_t values[41])
+uint64_t reference_read(const uint8_t *profile, uint64_t length, uint32_t values[])
 {
-    uint32_t fields[41] = {0};
+    uint32_t read[CHAROPLETH_VALUES_LENGTH] = {0};
     if (length == 0)
         return refusal(1, 0);
     if (get_field(profile, 0, 4) != 1)
         return refusal(2, 0);
-    uint32_t n = fields[0] = get_field(profile, 4, 4);
+    uint32_t n = read[0] = get_field(profile, 4, 4);
     if (n == 0 || n > 8)
         return refusal(3, 0);
     if (length != 1 + 8 * n)
         return refusal(4, 0);
     for (uint32_t i = 0; i < n; i++) {
-        uint32_t record[6];
-        for (int k = 0, at = 8 + 64 * (int)i; k < 6; at += record_widths[k++])
-            record[k] = get_field(profile, at, record_widths[k]);
-        if (record[LO] == 0 || record[HI] < record[LO] || record[HI] > 3600)
+        struct job job = {0};
+        uint32_t spare, *const fields[FIELDS] = {&job.lo, &job.hi, &job.data, &job.metadata, &job.stiffness, &spare};
+        for (int k = 0, at = 8 + 64 * (int)i; k < FIELDS; at += record_widths[k++])
+            *fields[k] = get_field(profile, at, record_widths[k]);
+        if (job.lo == 0 || job.hi < job.lo || job.hi > 3600)
             return refusal(5, i + 1);
-        if (record[STIFFNESS] < 1 || record[STIFFNESS] > 32)
+        if (job.stiffness < 1 || job.stiffness > 32)
             return refusal(6, i + 1);
-        if (record[5] != 0)
+        if (spare != 0)
             return refusal(7, i + 1);
-        memcpy(fields + 1 + 5 * i, record, 5 * sizeof *record);
+        put_job(read + 1, i, job);
     }
-    memcpy(values, fields, sizeof fields);
+    memcpy(values, read, sizeof read);
     return 0;
 }
 
-uint64_t reference_write(uint32_t n, const uint32_t jobs[40], uint8_t *room, uint64_t length)
+uint64_t reference_write(uint32_t n, const uint32_t jobs[], uint8_t *room, uint64_t length)
 {
     uint64_t verdict = reference_judge(n, jobs), bytes = 1 + 8 * (uint64_t)n;
     if (verdict != 0)
@@ -81,9 +83,12 @@ uint64_t reference_write(uint32_t n, const uint32_t jobs[40], uint8_t *room, uin
         return refusal(11, bytes);
     memset(room, 0, bytes);
     int at = put_field(room, put_field(room, 0, 4, 1), 4, n);
-    for (uint32_t i = 0; i < n; i++)
-        for (int k = 0; k < 6; k++)
-            at = put_field(room, at, record_widths[k], k < 5 ? jobs[5 * i + k] : 0);
+    for (uint32_t i = 0; i < n; i++) {
+        struct job job = get_job(jobs, i);
+        const uint32_t fields[FIELDS] = {job.lo, job.hi, job.data, job.metadata, job.stiffness, 0};
+        for (int k = 0; k < FIELDS; k++)
+            at = put_field(room, at, record_widths[k], fields[k]);
+    }
     return bytes;
 }
 
@@ -113,8 +118,8 @@ static uint64_t need_of(const struct search *s)
 {
     uint64_t last = s->periods[s->n - 1], pages = 0;
     for (uint32_t i = 0; i < s->n; i++) {
-        const uint32_t *job = s->jobs + 5 * i;
-        pages += ((uint64_t)job[DATA] + job[METADATA]) * (last / s->periods[i]);
+        struct job job = get_job(s->jobs, i);
+        pages += ((uint64_t)job.data + job.metadata) * (last / s->periods[i]);
     }
     return (3600 * pages + last - 1) / last;
 }
@@ -123,10 +128,10 @@ static uint64_t loss_of(const struct search *s)
 {
     uint64_t sum = 0;
     for (uint32_t i = 0; i < s->n; i++) {
-        const uint32_t *job = s->jobs + 5 * i;
-        uint64_t hourly = 3600 * ((uint64_t)job[DATA] + job[METADATA]);
-        uint64_t fall = hourly / job[LO] - hourly / s->periods[i];
-        sum += job[STIFFNESS] * fall * fall;
+        struct job job = get_job(s->jobs, i);
+        uint64_t hourly = 3600 * ((uint64_t)job.data + job.metadata);
+        uint64_t fall = hourly / job.lo - hourly / s->periods[i];
+        sum += job.stiffness * fall * fall;
     }
     return sum;
 }
@@ -154,8 +159,9 @@ static void enumerate(struct search *s, uint32_t i, uint32_t before)
         s->visit(s);
         return;
     }
-    for (uint32_t t = before; t <= s->jobs[5 * i + HI]; t += before) {
-        if (t < s->jobs[5 * i + LO])
+    struct job job = get_job(s->jobs, i);
+    for (uint32_t t = before; t <= job.hi; t += before) {
+        if (t < job.lo)
             continue;
         if (s->left-- == 0)
             s->gave_up = 1;
@@ -167,14 +173,14 @@ static void enumerate(struct search *s, uint32_t i, uint32_t before)
 }
 
 /* The whole enumeration, `visit` having been called at each list. */
-static struct search enumerated(void (*visit)(struct search *), uint32_t n, const uint32_t jobs[40], uint32_t budget, uint64_t most)
+static struct search enumerated(void (*visit)(struct search *), uint32_t n, const uint32_t jobs[], uint32_t budget, uint64_t most)
 {
     struct search s = {.visit = visit, .n = n, .jobs = jobs, .budget = budget, .left = most};
     enumerate(&s, 0, 1);
     return s;
 }
 
-uint64_t reference_choose(uint32_t n, const uint32_t jobs[40], uint32_t budget, uint64_t answer[10], uint64_t most)
+uint64_t reference_choose(uint32_t n, const uint32_t jobs[], uint32_t budget, uint64_t answer[], uint64_t most)
 {
     uint64_t verdict = reference_judge(n, jobs);
     if (verdict != 0)
@@ -186,10 +192,10 @@ uint64_t reference_choose(uint32_t n, const uint32_t jobs[40], uint32_t budget, 
         return refusal(9, 0);
     if (!s.fitting)
         return refusal(10, s.least_need);
-    answer[0] = s.need;
-    answer[1] = s.loss;
+    answer[CHAROPLETH_NEED] = s.need;
+    answer[CHAROPLETH_LOSS] = s.loss;
     for (uint32_t i = 0; i < 8; i++)
-        answer[2 + i] = i < n ? s.best[i] : 0;
+        answer[CHAROPLETH_PERIODS + i] = i < n ? s.best[i] : 0;
     return 0;
 }
 
@@ -222,7 +228,6 @@ static int in_order(const void *a, const void *b)
     return 0;
 }
 
-
 /* What is answered where so many rows are to be written, and nothing is wrong with the profile. */
 static uint64_t answer_rows(const struct search *s, uint64_t rows, uint64_t length)
 {
@@ -233,7 +238,7 @@ static uint64_t answer_rows(const struct search *s, uint64_t rows, uint64_t leng
     return length / 16 < rows ? refusal(11, rows) : rows;
 }
 
-uint64_t reference_zones(uint32_t n, const uint32_t jobs[40], uint8_t *room, uint64_t length, uint64_t most)
+uint64_t reference_zones(uint32_t n, const uint32_t jobs[], uint8_t *room, uint64_t length, uint64_t most)
 {
     uint64_t verdict = reference_judge(n, jobs);
     if (verdict != 0)
@@ -297,7 +302,7 @@ void reference_row(uint64_t need, const uint64_t periods[8], uint8_t row[16])
 
 uint32_t reference_start(const uint8_t row[16]) { return get_field(row, 0, 32); }
 
-uint64_t reference_table(uint32_t n, const uint32_t jobs[40], uint8_t *room, uint64_t length, uint64_t most)
+uint64_t reference_table(uint32_t n, const uint32_t jobs[], uint8_t *room, uint64_t length, uint64_t most)
 {
     uint64_t verdict = reference_judge(n, jobs);
     if (verdict != 0)
@@ -325,15 +330,16 @@ static uint32_t first_bad_period(const struct search *s)
 {
     uint32_t before = 1;
     for (uint32_t i = 0; i < s->n; i++) {
+        struct job job = get_job(s->jobs, i);
         uint32_t t = s->periods[i];
-        if (t < s->jobs[5 * i + LO] || t > s->jobs[5 * i + HI] || t % before != 0)
+        if (t < job.lo || t > job.hi || t % before != 0)
             return i + 1;
         before = t;
     }
     return 0;
 }
 
-uint64_t reference_score(uint32_t n, const uint32_t jobs[40], const uint32_t periods[8], uint64_t answer[2])
+uint64_t reference_score(uint32_t n, const uint32_t jobs[], const uint32_t periods[8], uint64_t answer[])
 {
     uint64_t verdict = reference_judge(n, jobs);
     if (verdict != 0)
@@ -343,8 +349,8 @@ uint64_t reference_score(uint32_t n, const uint32_t jobs[40], const uint32_t per
     uint32_t bad = first_bad_period(&s);
     if (bad != 0)
         return refusal(13, bad);
-    answer[0] = need_of(&s);
-    answer[1] = loss_of(&s);
+    answer[CHAROPLETH_NEED] = need_of(&s);
+    answer[CHAROPLETH_LOSS] = loss_of(&s);
     return 0;
 }
 
@@ -359,7 +365,7 @@ static int take_periods(struct search *s, const uint8_t row[16])
     return first_bad_period(s) == 0;
 }
 
-uint64_t reference_lookup(uint32_t n, const uint32_t jobs[40], const uint8_t *table, uint64_t length, uint32_t budget)
+uint64_t reference_lookup(uint32_t n, const uint32_t jobs[], const uint8_t *table, uint64_t length, uint32_t budget)
 {
     uint64_t verdict = reference_judge(n, jobs), start_before = 0, loss_before = 0, answer = 0;
     if (verdict != 0)

@@ -17,10 +17,10 @@ static uint64_t take_arguments(int argc, char **argv)
     return argc > 1 ? strtoull(argv[1], 0, 10) : 5000;
 }
 
-static void show_jobs(const uint32_t jobs[40])
+static void show_jobs(const uint32_t jobs[])
 {
-    for (int i = 0; i < 8; i++)
-        printf("%" PRIu32 " %" PRIu32 " %" PRIu32 " %" PRIu32 " %" PRIu32 "\n", jobs[5 * i], jobs[5 * i + 1], jobs[5 * i + 2], jobs[5 * i + 3], jobs[5 * i + 4]);
+    for (int i = 1; i <= CHAROPLETH_JOBS_LENGTH; i++)
+        printf("%" PRIu32 "%c", jobs[i - 1], i % CHAROPLETH_JOB_NUMBERS ? ' ' : '\n');
 }
 
 /* Ends a line that counts answers: how often each refusal was told. */

@@ -12,12 +12,12 @@ static uint8_t have[MOST], want[MOST];
 /* An operation that fills a room with rows, and the reference for it. */
 struct operation {
     const char *name;
-    uint64_t (*proved)(uint32_t, const uint32_t[40], uint8_t *, size_t);
-    uint64_t (*reference)(uint32_t, const uint32_t[40], uint8_t *, uint64_t, uint64_t);
+    uint64_t (*proved)(uint32_t, const uint32_t[], uint8_t *, size_t);
+    uint64_t (*reference)(uint32_t, const uint32_t[], uint8_t *, uint64_t, uint64_t);
 };
 
 /* In a room of `length` bytes between two guards. */
-static int same(const struct operation *o, uint32_t n, const uint32_t jobs[40], uint64_t length, uint64_t *result)
+static int same(const struct operation *o, uint32_t n, const uint32_t jobs[], uint64_t length, uint64_t *result)
 {
     for (uint64_t i = 0; i < length + 2 * GUARD; i++)
         have[i] = want[i] = (uint8_t)(0xA5 ^ i);
@@ -33,7 +33,7 @@ static int same(const struct operation *o, uint32_t n, const uint32_t jobs[40], 
 }
 
 /* In all rooms from no row to one row more than needed. */
-static int sweep(const struct operation *o, uint32_t n, const uint32_t jobs[40], uint64_t needed)
+static int sweep(const struct operation *o, uint32_t n, const uint32_t jobs[], uint64_t needed)
 {
     uint64_t result;
     for (uint64_t rows = 0; rows <= needed + 1; rows++)
@@ -46,7 +46,7 @@ static int compare(const struct operation *o, uint64_t count)
 {
     uint64_t done = 0, rows = 0, swept = 0, rooms = 0, told[16] = {0};
     while (done < count) {
-        uint32_t jobs[40];
+        uint32_t jobs[CHAROPLETH_JOBS_LENGTH];
         uint32_t n = draw_profile(jobs);
         if (below(8) == 0)
             n = break_profile(n, jobs);
