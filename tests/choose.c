@@ -51,7 +51,7 @@ struct task {
 static void *compare(void *given)
 {
     struct task *task = given;
-    uint64_t done = 0, told[16] = {0};
+    uint64_t done = 0, told[REFUSALS] = {0};
     deepest();
     while (done < task->count) {
         uint32_t jobs[CHAROPLETH_JOBS_LENGTH];

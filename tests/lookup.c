@@ -15,7 +15,7 @@ struct lookup {
 };
 
 static struct lookup l;
-static uint64_t lookups, told[16];
+static uint64_t lookups, told[REFUSALS];
 
 static int same(uint32_t budget, uint64_t *result)
 {

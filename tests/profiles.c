@@ -6,7 +6,7 @@
 
 enum { GUARD = 8, MOST = 80, NUMBERS = CHAROPLETH_VALUES_LENGTH, SCORES = CHAROPLETH_SCORE_LENGTH };
 
-static uint64_t told[3][16];
+static uint64_t told[3][REFUSALS];
 
 static int tell(const char *name, int kind, uint32_t n, const uint32_t jobs[], uint64_t answered, uint64_t result, int equal)
 {
@@ -99,7 +99,7 @@ int main(int argc, char **argv)
     }
     for (int kind = 0; kind < 3; kind++) {
         uint64_t all = 0;
-        for (int i = 0; i < 16; i++)
+        for (int i = 0; i < REFUSALS; i++)
             all += told[kind][i];
         printf("%s: %" PRIu64 " equal (%" PRIu64 " done", names[kind], all, told[kind][0]);
         show_refusals(told[kind]);

@@ -8,6 +8,9 @@
 
 #include "random.h"
 
+/* Answers are counted by the number of their refusal, 0 for none. */
+enum { REFUSALS = 14 };
+
 /* COUNT and SEED, the two arguments; the count is answered. */
 static uint64_t take_arguments(int argc, char **argv)
 {
@@ -24,9 +27,9 @@ static void show_jobs(const uint32_t jobs[])
 }
 
 /* Ends a line that counts answers: how often each refusal was told. */
-static void show_refusals(const uint64_t told[16])
+static void show_refusals(const uint64_t told[])
 {
-    for (int i = 1; i < 16; i++)
+    for (int i = 1; i < REFUSALS; i++)
         if (told[i])
             printf(", %" PRIu64 " times %d", told[i], i);
     printf(")\n");

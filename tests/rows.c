@@ -44,7 +44,7 @@ static int sweep(const struct operation *o, uint32_t n, const uint32_t jobs[], u
 
 static int compare(const struct operation *o, uint64_t count)
 {
-    uint64_t done = 0, rows = 0, swept = 0, rooms = 0, told[16] = {0};
+    uint64_t done = 0, rows = 0, swept = 0, rooms = 0, told[REFUSALS] = {0};
     while (done < count) {
         uint32_t jobs[CHAROPLETH_JOBS_LENGTH];
         uint32_t n = draw_profile(jobs);
