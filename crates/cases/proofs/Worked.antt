@@ -2,7 +2,7 @@
 -- Assumes nothing.
 use mathlib.Core.Path.{_≡_, refl, _∙_, sym, ap, subst}
 use mathlib.Core.List.{List, _∷_, map, flatMap, List·Memᴰ, List·Memᴰ·head, List·Memᴰ·tail}
-use Rattle.model.specs.Model.{entries, lastOf, pagesIn, need, rate, jobLoss, loss, verdictOf, refuseIf, orElse, ifSound, firstRefused, judgeIntervalAndStiffness, judgeJob, allows}
+use Rattle.model.specs.Model.{entries, load, cost, lastOf, pagesIn, need, rate, jobLoss, loss, verdictOf, refuseIf, orElse, ifSound, firstRefused, judgeIntervalAndStiffness, judgeJob, allows}
 use Rattle.codec.specs.Packing.{bits, pack, unpack, recut}
 use Rattle.codec.specs.Rows.{tableRow}
 use Rattle.score.specs.Scoring.{judgePeriod, firstUnpermitted, scoreVerdict}
@@ -22,7 +22,7 @@ use Rattle.cases.proofs.Cases.{Case, Right, cases}
 use Rattle.cases.proofs.Anew.{choiceFor, scoreFor, counted, roomy, countFor, bytesFor, anew, anew-right}
 
 computed : map anew cases ≡ cases
-unfolding cases anew chainsBy choiceFor scoreFor counted roomy countFor bytesFor settle walkBy visit pick lessNeed beats multiples risingFrom climb multiplesDown fallingFrom descend rate jobLoss entries verdictOf refuseIf orElse ifSound firstRefused judgeIntervalAndStiffness judgeJob need loss pagesIn lastOf scoreVerdict firstUnpermitted judgePeriod zonesIn zonesBelow unlessEmpty upToLast climbUp flatMap rowsOf recut pack unpack bits tableBytes tableRow descent upTo lookupVerdict tableVerdict firstBad rowRight placesRight placeRight allows follows rowFields lastWithin
+unfolding cases anew chainsBy choiceFor scoreFor counted roomy countFor bytesFor settle walkBy visit pick lessNeed beats multiples risingFrom climb multiplesDown fallingFrom descend load cost rate jobLoss entries verdictOf refuseIf orElse ifSound firstRefused judgeIntervalAndStiffness judgeJob need loss pagesIn lastOf scoreVerdict firstUnpermitted judgePeriod zonesIn zonesBelow unlessEmpty upToLast climbUp flatMap rowsOf recut pack unpack bits tableBytes tableRow descent upTo lookupVerdict tableVerdict firstBad rowRight placesRight placeRight allows follows rowFields lastWithin
 computed = refl
 
 same-head : {A : Type 0} {x y : A} {xs ys : List A} → x ∷ xs ≡ y ∷ ys → x ≡ y

@@ -6,7 +6,7 @@ use native.Mathlib.Nat.{le-trans, mul-le-mul, mul-le-mul-left, pow-le-pow-left, 
 use mathlib.Core.Path.{_≡_, _∙_, ap}
 use Rattle.model.specs.declared.Seconds.{Seconds}
 use Rattle.model.specs.declared.Job.{Job}
-use Rattle.model.specs.Model.{cost, roundUp, rate, jobLoss}
+use Rattle.model.specs.Model.{load, cost, roundUp, rate, jobLoss}
 use Rattle.model.specs.Valid.{ValidJob}
 use Rattle.model.proofs.Rounding.{round-up-le}
 
@@ -17,11 +17,20 @@ mostRate = 235922400
 abbrev pub mostLoss : ℕ
 mostLoss = 32 * mostRate ^ 2
 
+pub load-bound : (j : Job) → ValidJob j → load j ≤ 65534
+unfolding load
+load-bound j v = omega arith
+
 pub cost-bound : (j : Job) → ValidJob j → cost j ≤ 65534
+unfolding cost
 cost-bound j v = omega arith
 
+-- so many pages once in t seconds
+pub hourly-bound : (pages t : ℕ) → pages ≤ 65534 → 3600 * pages / t ≤ mostRate
+hourly-bound pages t few = omega (arith, div-le-self (3600 * pages) t)
+
 pub rate-bound : (j : Job) (t : ℕ) → ValidJob j → 3600 * cost j / t ≤ mostRate
-rate-bound j t v = omega (arith, div-le-self (3600 * cost j) t)
+rate-bound j t v = hourly-bound (cost j) t (cost-bound j v)
 
 pub job-loss-bound : (j : Job) (t : Seconds) → ValidJob j → jobLoss j t ≤ mostLoss
 unfolding jobLoss rate

@@ -5,7 +5,7 @@ use mathlib.Core.List.{List, [], _∷_}
 use Prim.Native.Nat.{ℕ}
 use Rattle.model.specs.declared.Seconds.{Seconds}
 use Rattle.model.specs.declared.Job.{Job}
-use Rattle.model.specs.Model.{seconds, pagesPerHour, lastOf, pagesIn, need, rate, jobLoss, loss}
+use Rattle.model.specs.Model.{seconds, pagesPerHour, lastOf, load, cost, pagesIn, need, rate, jobLoss, loss}
 
 job : ℕ → ℕ → ℕ → ℕ → Job
 job lo hi d g = record { lo = seconds lo; hi = seconds hi; «data» = d; metadata = g; stiffness = 1 }
@@ -17,9 +17,9 @@ lastRow : List Seconds
 lastRow = seconds 23 ∷ seconds 46 ∷ seconds 46 ∷ []
 
 last-need : need profileA lastRow ≡ pagesPerHour 6261
-unfolding need pagesIn lastOf profileA job lastRow
+unfolding need pagesIn load lastOf profileA job lastRow
 last-need = refl
 
 last-loss : loss profileA lastRow ≡ 72006
-unfolding loss jobLoss rate profileA job lastRow
+unfolding loss jobLoss rate cost profileA job lastRow
 last-loss = refl

@@ -45,8 +45,12 @@ jobsOf p = entries noJob (p .jobs) 0 (p .n)
 abbrev pub periodsOf : Profile → List Seconds → List Seconds
 periodsOf p ts = entries (seconds 0) ts 0 (p .n)
 
--- The pages of one run: c = d + g (Quantities).
-abbrev pub cost : Job → ℕ
+-- What need takes from a run of a job: its pages, c = d + g (Quantities: need).
+unfoldable pub load : Job → ℕ
+load j = j .«data» + j .metadata
+
+-- What loss takes from a run of a job: its pages, c = d + g (Quantities: loss).
+unfoldable pub cost : Job → ℕ
 cost j = j .«data» + j .metadata
 
 -- A period that a job may have after the period `before`: in its interval, and a whole multiple (Quantities).
@@ -79,7 +83,7 @@ lastOf before (t ∷ ts) = lastOf t ts
 unfoldable pub pagesIn : Seconds → List Job → List Seconds → ℕ
 pagesIn span [] ts = 0
 pagesIn span (j ∷ js) [] = 0
-pagesIn span (j ∷ js) (t ∷ ts) = cost j * (span .0 / t .0) + pagesIn span js ts
+pagesIn span (j ∷ js) (t ∷ ts) = load j * (span .0 / t .0) + pagesIn span js ts
 
 -- A fraction rounded up to a whole number.
 abbrev pub roundUp : ℕ → ℕ → ℕ

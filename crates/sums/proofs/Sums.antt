@@ -8,10 +8,10 @@ use native.Mathlib.Omega.{arith}
 use lib.ListN.{getD}
 use Rattle.model.specs.declared.Seconds.{Seconds}
 use Rattle.model.specs.declared.Job.{Job}
-use Rattle.model.specs.Model.{seconds, noJob, entries, cost, lastOf, pagesIn, jobLoss, loss}
+use Rattle.model.specs.Model.{seconds, noJob, entries, load, lastOf, pagesIn, jobLoss, loss}
 use Rattle.model.specs.Valid.{ValidJob}
 use Rattle.model.proofs.Entries.{entries-step, entries-end}
-use Rattle.model.proofs.Bounds.{cost-bound}
+use Rattle.model.proofs.Bounds.{load-bound}
 
 last-entry : (before : Seconds) (ts : List Seconds) (i n : ℕ) → lastOf before (entries (seconds 0) ts i (suc n)) ≡ getD ts (i + n) (seconds 0)
 unfolding lastOf entries
@@ -27,7 +27,7 @@ last-period ts n h =
     ap (λ (m : ℕ). lastOf (seconds 1) (entries (seconds 0) ts 0 m)) e ∙ last-entry (seconds 1) ts 0 (n - 1) ∙ ap (λ (m : ℕ). getD ts m (seconds 0)) (zero-add (n - 1))
 
 module _ (xs : List Job) (ts : List Seconds) (k n : ℕ) where
-  pub pages-step : (span : Seconds) → k < n → pagesIn span (entries noJob xs k (n - k)) (entries (seconds 0) ts k (n - k)) ≡ cost (getD xs k noJob) * (span .0 / getD ts k (seconds 0) .0) + pagesIn span (entries noJob xs (k + 1) (n - (k + 1))) (entries (seconds 0) ts (k + 1) (n - (k + 1)))
+  pub pages-step : (span : Seconds) → k < n → pagesIn span (entries noJob xs k (n - k)) (entries (seconds 0) ts k (n - k)) ≡ load (getD xs k noJob) * (span .0 / getD ts k (seconds 0) .0) + pagesIn span (entries noJob xs (k + 1) (n - (k + 1))) (entries (seconds 0) ts (k + 1) (n - (k + 1)))
   unfolding pagesIn
   pages-step span h = ap₂ (pagesIn span) (entries-step noJob xs k n h) (entries-step (seconds 0) ts k n h)
 
@@ -44,8 +44,8 @@ module _ (xs : List Job) (ts : List Seconds) (k n : ℕ) where
   loss-end h = ap₂ loss (entries-end noJob xs k n h) (entries-end (seconds 0) ts k n h)
 
 -- a job writes at most 65,534 pages in each second of the span
-pub run-pages-bound : (j : Job) (span t : ℕ) → ValidJob j → cost j * (span / t) ≤ 65534 * span
-run-pages-bound j span t v = mul-le-mul (cost-bound j v) (div-le-self span t)
+pub run-pages-bound : (j : Job) (span t : ℕ) → ValidJob j → load j * (span / t) ≤ 65534 * span
+run-pages-bound j span t v = mul-le-mul (load-bound j v) (div-le-self span t)
 
 -- a sum after k of n terms, none above `most`: with what is still to come it is the whole
 pub record Summed (whole later most n sum k : ℕ) : Type 0 where

@@ -8,7 +8,7 @@ use model::Profile;
 use model::Seconds;
 ghost use mathlib.Core.Path.{_≡_};
 ghost use Prim.Native.Nat.{_*_, _/_, _≤_};
-ghost use Rattle.model.specs.Model.{cost, jobsOf, periodsOf, Permitted, pagesIn, need, rate, jobLoss, loss};
+ghost use Rattle.model.specs.Model.{load, cost, jobsOf, periodsOf, Permitted, pagesIn, need, rate, jobLoss, loss};
 ghost use Rattle.model.specs.Valid.{Valid, ValidJob};
 
 // The need of permitted periods: the pages of the last period's seconds, as an hour's, rounded up once.
@@ -42,7 +42,7 @@ fn pages_in(p: Profile, periods: [Seconds; 8], span: Seconds) -> u64
 // The pages that one job at period t writes in `span` seconds.
 fn job_pages_in(j: Job, t: Seconds, span: Seconds) -> u64
     requires { ⌜ ValidJob j × (1 ≤ t .0) × (span .0 ≤ 3600) ⌝ }
-    ensures { λ r. ⌜ (r ≡ cost j * (span .0 / t .0)) × (r ≤ 65534 * span .0) ⌝ }
+    ensures { λ r. ⌜ (r ≡ load j * (span .0 / t .0)) × (r ≤ 65534 * span .0) ⌝ }
 {
     let runs = (span.0 / t.0) as u64;
     run_pages(j) * runs
@@ -84,10 +84,10 @@ fn hourly_rate(j: Job, t: Seconds) -> PagesPerHour
     PagesPerHour((3600 * run_pages(j) / (t.0 as u64)) as u32)
 }
 
-// The pages of one run.
+// The pages of one run, as need counts them and as loss counts them.
 fn run_pages(j: Job) -> u64
     requires { ⌜ ValidJob j ⌝ }
-    ensures { λ r. ⌜ r ≡ cost j ⌝ }
+    ensures { λ r. ⌜ (r ≡ load j) × (r ≡ cost j) ⌝ }
 {
     (j.data as u64) + (j.metadata as u64)
 }

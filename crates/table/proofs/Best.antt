@@ -10,9 +10,9 @@ use lib.ListN.{length}
 use Rattle.model.specs.declared.Seconds.{Seconds}
 use Rattle.model.specs.declared.PagesPerHour.{PagesPerHour}
 use Rattle.model.specs.declared.Job.{Job}
-use Rattle.model.specs.Model.{seconds, cost, Permitted, lastOf, pagesIn, need, FitsBudget, loss, Best}
+use Rattle.model.specs.Model.{seconds, load, Permitted, lastOf, pagesIn, need, FitsBudget, loss, Best}
 use Rattle.model.specs.Valid.{ValidJobs}
-use Rattle.model.proofs.Bounds.{cost-bound, need-bound}
+use Rattle.model.proofs.Bounds.{load-bound, need-bound}
 use Rattle.walk.specs.Walk.{walk, start}
 use Rattle.choose_offer.specs.Found.{Found, nothing, found, pick}
 use Rattle.choose_walk.proofs.Fold.{BestOrNone, walk-best}
@@ -69,7 +69,7 @@ unfolding pagesIn
 pages-bound span [] ts v = omega arith
 pages-bound span (j ∷ js) [] v = omega arith
 pages-bound span (j ∷ js) (t ∷ ts) v =
-    let here : cost j * (span .0 / t .0) ≤ 65534 * span .0 = mul-le-mul (cost-bound j (v .0)) (div-le-self (span .0) (t .0)) in
+    let here : load j * (span .0 / t .0) ≤ 65534 * span .0 = mul-le-mul (load-bound j (v .0)) (div-le-self (span .0) (t .0)) in
     omega (arith, pages-bound span js ts (v .1))
 
 -- Every permitted list of at most eight jobs fits some 32-bit budget.

@@ -12,7 +12,7 @@ use Rattle.model.specs.declared.Seconds.{Seconds}
 use Rattle.model.specs.declared.PagesPerHour.{PagesPerHour}
 use Rattle.model.specs.declared.Job.{Job}
 use Rattle.model.specs.declared.Profile.{Profile}
-use Rattle.model.specs.Model.{seconds, pagesPerHour, noJob, entries, jobsOf, periodsOf, cost, lastOf, roundUp, need, jobLoss, loss, allows}
+use Rattle.model.specs.Model.{seconds, pagesPerHour, noJob, entries, jobsOf, periodsOf, load, lastOf, roundUp, need, jobLoss, loss, allows}
 use Rattle.model.specs.Valid.{Valid}
 use Rattle.model.proofs.Allowing.{allowed}
 use Rattle.model.proofs.Bounds.{eight-losses}
@@ -81,7 +81,7 @@ module _ {p : Profile} {ts : List Seconds} {before : Seconds} {written lost i : 
     pub place-off : allows (getD (p .jobs) i noJob) before (getD ts i (seconds 0)) ≡ false → placesRight p ts 0 (seconds 1) 8 ≡ false
     place-off e = l .left ∙ bad-place p ts before i (omega (arith, v .n-to)) (of-job p i before _ less ∙ e)
 
-    pub next-place : allows (getD (p .jobs) i noJob) before (getD ts i (seconds 0)) ≡ true → PlacesLeft p ts (getD ts i (seconds 0)) (written * (getD ts i (seconds 0) .0 / before .0) + cost (getD (p .jobs) i noJob)) (lost + jobLoss (getD (p .jobs) i noJob) (getD ts i (seconds 0))) (i + 1)
+    pub next-place : allows (getD (p .jobs) i noJob) before (getD ts i (seconds 0)) ≡ true → PlacesLeft p ts (getD ts i (seconds 0)) (written * (getD ts i (seconds 0) .0 / before .0) + load (getD (p .jobs) i noJob)) (lost + jobLoss (getD (p .jobs) i noJob) (getD ts i (seconds 0))) (i + 1)
     unfolding pagesAfter lastOf loss
     next-place e =
         let j = getD (p .jobs) i noJob in

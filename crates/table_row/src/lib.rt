@@ -9,7 +9,7 @@ ghost use mathlib.Core.Path.{_≡_};
 ghost use Prim.Native.Nat.{_+_, _*_, _-_, _/_, _^_, _≤_, _<_};
 ghost use Rattle.codec.specs.Packing.{unpack};
 ghost use Rattle.codec.specs.Rows.{tableWidths};
-ghost use Rattle.model.specs.Model.{cost, rate, jobLoss};
+ghost use Rattle.model.specs.Model.{load, cost, rate, jobLoss};
 ghost use Rattle.model.specs.Valid.{ValidJob};
 ghost use Rattle.walk.specs.Steps.{NeedFits};
 ghost use Rattle.table_row.specs.Table.{rowsIn, startAt, follows};
@@ -76,7 +76,7 @@ pub fn cut_row(high: u64, low: u64) -> TableRow
 // The pages that jobs write in t seconds, this job with them, where those before it have `written` so many in `before`.
 pub fn written_with(j: Job, written: u64, before: Seconds, t: Seconds) -> u64
     requires { ⌜ ValidJob j × NeedFits written before × (t .0 ≤ 3600) ⌝ }
-    ensures { λ r. ⌜ r ≡ written * (t .0 / before .0) + cost j ⌝ }
+    ensures { λ r. ⌜ r ≡ written * (t .0 / before .0) + load j ⌝ }
 {
     written * ((t.0 / before.0) as u64) + (run_pages(j) as u64)
 }
@@ -89,10 +89,10 @@ pub fn job_loss(j: Job, fastest: PagesPerHour, t: Seconds) -> u64
     walk::job_loss(j.stiffness, fastest, run_pages(j), t)
 }
 
-// The pages of one run.
+// The pages of one run, as need counts them and as loss counts them.
 fn run_pages(j: Job) -> u32
     requires { ⌜ ValidJob j ⌝ }
-    ensures { λ r. ⌜ r ≡ cost j ⌝ }
+    ensures { λ r. ⌜ (r ≡ load j) × (r ≡ cost j) ⌝ }
 {
     j.data + j.metadata
 }

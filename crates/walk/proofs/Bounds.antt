@@ -8,8 +8,8 @@ use native.Mathlib.Nat.{le-refl, mul-le-mul-right}
 use lib.ListN.{length}
 use Rattle.model.specs.declared.Seconds.{Seconds}
 use Rattle.model.specs.declared.Job.{Job}
-use Rattle.model.proofs.Bounds.{mostLoss, job-loss-bound, mostRate, rate-bound, need-bound as span-need-bound}
-use Rattle.model.specs.Model.{seconds, cost, Allowed, roundUp}
+use Rattle.model.proofs.Bounds.{mostLoss, job-loss-bound, mostRate, load-bound, hourly-bound, need-bound as span-need-bound}
+use Rattle.model.specs.Model.{seconds, load, Allowed, roundUp}
 use Rattle.model.specs.Valid.{ValidJob, ValidJobs}
 use Rattle.walk.specs.Walk.{lossFloor, leastNeeds, Node, start, next, Bounded}
 use Rattle.model.proofs.Rounding.{multiple-is}
@@ -26,8 +26,7 @@ pub least-needs-bound : (js : List Job) → ValidJobs js → leastNeeds js ≤ m
 unfolding leastNeeds
 least-needs-bound [] v = le-refl 0
 least-needs-bound (j ∷ js) v =
-    let valid = v .0 in
-    let here = rate-bound j (j .hi .0) valid in
+    let here = hourly-bound (load j) (j .hi .0) (load-bound j (v .0)) in
     let later = least-needs-bound js (v .1) in
     omega arith
 
@@ -41,7 +40,7 @@ next-bounded i j n t v a h =
     let carried : n .pages * k ≤ 65534 * i * n .before .0 * k = mul-le-mul-right k (h .pages-to) in
     let same : 65534 * i * t .0 ≡ 65534 * i * (k * n .before .0) = ap (λ (x : ℕ). 65534 * i * x) is in
     let pos : 1 ≤ t .0 = omega arith in
-    let own : cost j ≤ 65534 = omega arith in
+    let own = load-bound j v in
     let here = job-loss-bound j t v in
     record { pages-to = omega arith; lost-to = omega arith }
 

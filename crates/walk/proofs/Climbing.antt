@@ -11,7 +11,7 @@ use lib.Seq.{take-suc-set, take-set-le}
 use Rattle.model.specs.declared.Seconds.{Seconds}
 use Rattle.model.specs.declared.Job.{Job}
 use Rattle.model.proofs.Bounds.{mostLoss, job-loss-bound}
-use Rattle.model.specs.Model.{seconds, cost, jobLoss}
+use Rattle.model.specs.Model.{seconds, jobLoss}
 use Rattle.walk.specs.Walk.{node, next, walkBy, walk, walkFrom}
 use Rattle.walk.specs.Arrays.{HoldsJob, Held}
 use Rattle.walk.specs.Steps.{lossAt, LossFits, needAt, Repeats, Later, Ready, ReadyForCut, IsLossFloor, periodsIn, ChangesNothing, Walked}
@@ -19,7 +19,7 @@ use Rattle.model.proofs.Rounding.{round-up-above, round-up-some}
 use Rattle.walk.proofs.Bounds.{loss-floor-bound}
 use Rattle.walk.proofs.Chains.{multiples-lists}
 use Rattle.walk.proofs.Walk.{Keeps}
-use Rattle.walk.proofs.Pageless.{Absorbs, SettledTo, settled-first, settled-more, settled-passes}
+use Rattle.walk.proofs.Pageless.{Pageless, Absorbs, SettledTo, settled-first, settled-more, settled-passes}
 use Rattle.walk.proofs.Loops.{loop-opens, loop-takes, loop-ends, loop-left}
 use Rattle.walk.proofs.Held.{held-open, held-none, held-next, held-valid, job-loss-fits, job-loss-is}
 use Rattle.walk.proofs.Cuts.{next-ready, next-written}
@@ -152,7 +152,7 @@ module _ {A : Type 0} {Good : A → Type 0} {f : ℕ → ℕ → List Seconds �
     where
       below : (j : Job) (js : List Job) → Held spans runs rates weights i n (j ∷ js) → walk f js (next j (node step written lost (periodsIn i ps₀)) (seconds t)) acc ≡ acc
       below j js h =
-          let idle : cost j ≡ 0 = sym (h .jobs .0 .for-need) ∙ repeats .for-need in
+          let idle : Pageless j = record { for-need = sym (h .jobs .0 .for-need) ∙ repeats .for-need; for-loss = sym (h .jobs .0 .for-loss) ∙ repeats .for-loss } in
           let passed = repeats .passed in
           settled-passes f j js (node step written lost (periodsIn i ps₀)) acc (u .ready .from) (held-valid js (held-next j js h)) t (up-later .from) (u .up .multiple) (u .up .settled j js h) idle (rw (h .jobs .0 .shortest) at passed) multiples-lists
 

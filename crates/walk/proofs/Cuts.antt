@@ -8,8 +8,8 @@ use native.Mathlib.Nat.{le-refl, le-trans, mul-le-mul-right}
 use lib.ListN.{getD}
 use Rattle.model.specs.declared.Seconds.{Seconds}
 use Rattle.model.specs.declared.Job.{Job}
-use Rattle.model.proofs.Bounds.{mostLoss}
-use Rattle.model.specs.Model.{seconds, cost, Allowed, roundUp}
+use Rattle.model.proofs.Bounds.{mostLoss, load-bound}
+use Rattle.model.specs.Model.{seconds, load, Allowed, roundUp}
 use Rattle.walk.specs.Walk.{needFloor, Node, node, walkBy}
 use Rattle.walk.specs.Arrays.{HoldsJob, Held}
 use Rattle.walk.specs.Steps.{needAt, NeedFits, Ends, Unreached, Ready, ReadyForCut, ChangesNothing}
@@ -59,9 +59,8 @@ module _ {spans runs rates weights : List ℕ} {i n : ℕ} where
     pub ready-own : i < n → getD runs i 0 ≤ 65534
     ready-own less =
         let o = held-open (r .js) less (r .held) in
-        let v = o .holds .valid in
         let e = o .holds .for-need in
-        omega arith
+        omega (arith, load-bound (o .job) (o .holds .valid))
 
     pub ready-need : NeedFits written t
     ready-need =
@@ -100,7 +99,7 @@ module _ {spans runs rates weights : List ℕ} {i n : ℕ} where
           let hi = o .holds .longest in
           let own = o .holds .for-need in
           let b = next-bounded i (o .job) (node t written lost []) (seconds u) v (next-allowed (o .job) (o .holds)) (r .bounded) in
-          let p : written * (u / t .0) + cost (o .job) ≤ 65534 * (i + 1) * u = b .pages-to in
+          let p : written * (u / t .0) + load (o .job) ≤ 65534 * (i + 1) * u = b .pages-to in
           record { js = o .rest; held = o .later; from = omega arith; to = omega arith; bounded = record { pages-to = omega arith; lost-to = lost≤ } }
 
       pub next-written : written * (u / t .0) + getD runs i 0 ≤ 1887379200

@@ -10,7 +10,7 @@ use lib.ListN.{length, getD, set, replicate, length-set, getD-replicate}
 use lib.Seq.{getD-set-same, getD-set-other}
 use Rattle.model.specs.declared.Job.{Job}
 use Rattle.model.specs.declared.Profile.{Profile}
-use Rattle.model.specs.Model.{noJob, entries, jobsOf, cost, rate}
+use Rattle.model.specs.Model.{noJob, entries, jobsOf, load, cost, rate}
 use Rattle.model.specs.Valid.{ValidJob, ValidJobs, Valid}
 use Rattle.model.proofs.Entries.{entries-step, entries-end}
 use Rattle.walk.specs.Walk.{leastNeeds}
@@ -46,11 +46,11 @@ entries-length js zero i = refl
 entries-length js (suc m) i = ap suc (entries-length js m (i + 1))
 
 -- what the jobs from the place before on need
-needs-step : (p : Profile) (k : ℕ) → 0 < k → k ≤ p .n → needsFrom p (k - 1) ≡ 3600 * cost (jobAt p (k - 1)) / jobAt p (k - 1) .hi .0 + needsFrom p k
+needs-step : (p : Profile) (k : ℕ) → 0 < k → k ≤ p .n → needsFrom p (k - 1) ≡ 3600 * load (jobAt p (k - 1)) / jobAt p (k - 1) .hi .0 + needsFrom p k
 unfolding leastNeeds
 needs-step p k pos to =
     let again : k - 1 + 1 ≡ k = omega arith in
-    ap leastNeeds (entries-step noJob (p .jobs) (k - 1) (p .n) (omega arith)) ∙ ap (λ (x : ℕ). 3600 * cost (jobAt p (k - 1)) / jobAt p (k - 1) .hi .0 + needsFrom p x) again
+    ap leastNeeds (entries-step noJob (p .jobs) (k - 1) (p .n) (omega arith)) ∙ ap (λ (x : ℕ). 3600 * load (jobAt p (k - 1)) / jobAt p (k - 1) .hi .0 + needsFrom p x) again
 
 pub needs-none : (p : Profile) → needsFrom p (p .n) ≡ 0
 unfolding leastNeeds
@@ -111,7 +111,7 @@ module _ {p : Profile} (v : Valid p) where
         let b = both-more _ _ xs (jobAt p (k - 1) .lo .0) (jobAt p (k - 1) .hi .0) (omega arith) refl refl (s .shortest) (s .longest) in
         record { size = length-set (set xs (k - 1) (jobAt p (k - 1) .lo .0)) (8 + (k - 1)) (jobAt p (k - 1) .hi .0) ∙ length-set xs (k - 1) (jobAt p (k - 1) .lo .0) ∙ size; shortest = b .0; longest = b .1 }
 
-    pub pages-more : {xs : List ℕ} (x y : ℕ) → x ≡ cost (jobAt p (k - 1)) → y ≡ cost (jobAt p (k - 1)) → PagesFrom p k xs → PagesFrom p (k - 1) (set (set xs (k - 1) x) (8 + (k - 1)) y)
+    pub pages-more : {xs : List ℕ} (x y : ℕ) → x ≡ load (jobAt p (k - 1)) → y ≡ cost (jobAt p (k - 1)) → PagesFrom p k xs → PagesFrom p (k - 1) (set (set xs (k - 1) x) (8 + (k - 1)) y)
     pages-more {xs} x y is-x is-y s =
         let size = s .size in
         let b = both-more _ _ xs x y (omega arith) is-x is-y (s .for-need) (s .for-loss) in
@@ -123,7 +123,7 @@ module _ {p : Profile} (v : Valid p) where
         let size = s .size in
         record { size = length-set xs (k - 1) (jobAt p (k - 1) .stiffness) ∙ size; stiff = filled-more first _ xs (jobAt p (k - 1) .stiffness) (λ m on. omega arith) (omega arith) refl (s .stiff) }
 
-    module _ (x y needs : ℕ) (is-x : x ≡ cost (jobAt p (k - 1))) (is-y : y ≡ cost (jobAt p (k - 1))) (had : needs ≡ needsFrom p k) where
+    module _ (x y needs : ℕ) (is-x : x ≡ cost (jobAt p (k - 1))) (is-y : y ≡ load (jobAt p (k - 1))) (had : needs ≡ needsFrom p k) where
       pub needs-more : 3600 * y / jobAt p (k - 1) .hi .0 + needs ≡ needsFrom p (k - 1)
       needs-more = ap₂ (λ (a b : ℕ). 3600 * a / jobAt p (k - 1) .hi .0 + b) is-y had ∙ sym (needs-step p k pos to)
 

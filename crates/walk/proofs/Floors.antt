@@ -8,7 +8,7 @@ use native.Mathlib.Omega.{arith}
 use native.Mathlib.Nat.{le-refl, le-trans, add-le-add, mul-le-mul-left, mul-le-mul-right, pow-le-pow-left, div-mul-le-self, le-div-iff-mul-le, le-of-mul-le-mul-right, mod-self, mod-eq-of-lt}
 use Rattle.model.specs.declared.Seconds.{Seconds}
 use Rattle.model.specs.declared.Job.{Job}
-use Rattle.model.specs.Model.{cost, Allowed, PermittedAfter, lastOf, roundUp, rate, jobLoss, loss}
+use Rattle.model.specs.Model.{load, cost, Allowed, PermittedAfter, lastOf, roundUp, rate, jobLoss, loss}
 use Rattle.model.specs.Valid.{ValidJob, ValidJobs}
 use Rattle.walk.specs.Walk.{pagesAfter, needAfter, lossFloor, leastNeeds, needFloor}
 use Rattle.model.proofs.Rounding.{round-up-le, round-up-above, multiple-is, split-product}
@@ -73,17 +73,17 @@ one-more s q most k {c} {t} {u} pos u-pos is small whole =
 
 -- one more job at a permitted period does not lower the floor
 pub need-floor-step : (pages : ℕ) (t u : Seconds) (j : Job) (js : List Job) → ValidJob j → 1 ≤ t .0 → Allowed j t u →
-    needFloor pages t (j ∷ js) ≤ needFloor (pages * (u .0 / t .0) + cost j) u js
+    needFloor pages t (j ∷ js) ≤ needFloor (pages * (u .0 / t .0) + load j) u js
 unfolding needFloor leastNeeds
 need-floor-step pages t u j js v pos a =
     let k = u .0 / t .0 in
-    let more = 3600 * (pages * k + cost j) in
+    let more = 3600 * (pages * k + load j) in
     let u-pos : 1 ≤ u .0 = omega arith in
     let is : u .0 ≡ k * t .0 = multiple-is (u .0) (t .0) (a .multiple) in
-    let q = 3600 * cost j / j .hi .0 in
-    let small : q * u .0 ≤ 3600 * cost j = le-trans (mul-le-mul-left q (a .below)) (div-mul-le-self (3600 * cost j) (j .hi .0)) in
+    let q = 3600 * load j / j .hi .0 in
+    let small : q * u .0 ≤ 3600 * load j = le-trans (mul-le-mul-left q (a .below)) (div-mul-le-self (3600 * load j) (j .hi .0)) in
     let whole : more ≤ roundUp more (u .0) * u .0 = round-up-above more u-pos in
-    let parts : 3600 * pages * k + 3600 * cost j ≤ roundUp more (u .0) * u .0 = omega arith in
+    let parts : 3600 * pages * k + 3600 * load j ≤ roundUp more (u .0) * u .0 = omega arith in
     let floor = one-more (3600 * pages) q (roundUp more (u .0)) k pos u-pos is small parts in
     omega arith
 
@@ -95,7 +95,7 @@ need-floor pages t (j ∷ js) [] v pos h = absurd h
 need-floor pages t (j ∷ js) (u ∷ us) v pos h =
     let valid = v .0 in
     let allowed = h .0 in
-    le-trans (need-floor-step pages t u j js valid pos allowed) (need-floor (pages * (u .0 / t .0) + cost j) u js us (v .1) (omega arith) (h .1))
+    le-trans (need-floor-step pages t u j js valid pos allowed) (need-floor (pages * (u .0 / t .0) + load j) u js us (v .1) (omega arith) (h .1))
 
 -- every interval holds a multiple of whatever divides the period before
 reached : (before : Seconds) (d : ℕ) {j : Job} (js : List Job) (ts : List Seconds) → 1 ≤ d → before .0 % d ≡ 0 → List·Memᴰ j js → PermittedAfter before js ts → j .lo .0 ≤ j .hi .0 / d * d

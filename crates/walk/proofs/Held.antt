@@ -9,7 +9,7 @@ use native.Mathlib.Decide.{ℕ-discrete}
 use lib.ListN.{getD}
 use Rattle.model.specs.declared.Seconds.{Seconds}
 use Rattle.model.specs.declared.Job.{Job}
-use Rattle.model.proofs.Bounds.{mostLoss}
+use Rattle.model.proofs.Bounds.{mostLoss, cost-bound}
 use Rattle.model.specs.Model.{cost, rate, jobLoss}
 use Rattle.model.specs.Valid.{ValidJobs}
 use Rattle.walk.specs.Arrays.{HoldsJob, Held}
@@ -87,6 +87,7 @@ module _ {spans runs rates weights : List ℕ} where
         let v = h .valid in
         let r : getD rates i 0 ≡ 3600 * cost j / j .lo .0 = h .fastest in
         let c = h .for-loss in
+        let few = cost-bound j v in
         let w = h .stiff in
         let pos : 1 ≤ t .0 = omega arith in
         let slow : 3600 * cost j / t .0 ≤ 3600 * cost j / j .lo .0 = quotient-falls (3600 * cost j) (v .lo-from) on in

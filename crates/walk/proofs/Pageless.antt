@@ -10,7 +10,7 @@ use native.Mathlib.Nat.{le-refl, le-antisymm, mul-mod-left, mul-mod-right, mod-o
 use native.Mathlib.Decide.{ℕ-discrete}
 use Rattle.model.specs.declared.Seconds.{Seconds}
 use Rattle.model.specs.declared.Job.{Job}
-use Rattle.model.specs.Model.{seconds, cost, PermittedAfter, lastOf, roundUp, rate, jobLoss, loss}
+use Rattle.model.specs.Model.{seconds, load, cost, PermittedAfter, lastOf, roundUp, rate, jobLoss, loss}
 use Rattle.model.specs.Valid.{ValidJobs}
 use Rattle.walk.specs.Chains.{chainsBy}
 use Rattle.walk.specs.Walk.{pagesAfter, needAfter, visit, Node, next, walkBy}
@@ -80,7 +80,12 @@ module _ (u t : Seconds) (pos : 1 ≤ u .0) (t-pos : 1 ≤ t .0) (multiple : t .
   need-scaled pages (j ∷ js) (s ∷ ts) h =
       let whole : s .0 / u .0 ≡ t .0 / u .0 * (s .0 / t .0) = quotient-trans (u .0) (t .0) (s .0) pos multiple (h .0 .multiple) in
       let moved : pages * (t .0 / u .0) * (s .0 / t .0) ≡ pages * (s .0 / u .0) = mul-assoc pages (t .0 / u .0) (s .0 / t .0) ∙ ap (λ (x : ℕ). pages * x) (sym whole) in
-      ap (λ (x : ℕ). roundUp (3600 * pagesAfter (x + cost j) s js ts) (lastOf s ts .0)) moved
+      ap (λ (x : ℕ). roundUp (3600 * pagesAfter (x + load j) s js ts) (lastOf s ts .0)) moved
+
+-- A job without pages, for need and for loss.
+pub record Pageless (j : Job) : Type 0 where
+  pub for-need : load j ≡ 0
+  pub for-loss : cost j ≡ 0
 
 -- without pages every period loses the same
 pub pageless-loss : (j : Job) (t u : Seconds) → cost j ≡ 0 → jobLoss j t ≡ jobLoss j u
@@ -107,23 +112,24 @@ pub record Absorbs {A : Type 0} (Good : A → Type 0) (f : ℕ → ℕ → List 
 
 -- u and t are multiples of the period before, and t of u: a job without pages at u takes every completion that it has at t
 module _ {order : Seconds → Job → List Seconds} (law : ListsAllowed order) {A : Type 0} (f : ℕ → ℕ → List Seconds → A → A) (s : A) (j : Job) (js : List Job) (n : Node) (u t : Seconds) where
-  pub passed-over : ValidJobs js → cost j ≡ 0 → 1 ≤ n .before .0 → 1 ≤ u .0 → 1 ≤ t .0 → u .0 % n .before .0 ≡ 0 → t .0 % u .0 ≡ 0 → Settled f js (next j n u) s → walkBy order f js (next j n t) s ≡ s
+  pub passed-over : ValidJobs js → Pageless j → 1 ≤ n .before .0 → 1 ≤ u .0 → 1 ≤ t .0 → u .0 % n .before .0 ≡ 0 → t .0 % u .0 ≡ 0 → Settled f js (next j n u) s → walkBy order f js (next j n t) s ≡ s
   unfolding atPlan
   passed-over v none pos u-pos t-pos u-multiple t-multiple settled = walk-kept law f s js (next j n t) v t-pos stands
     where
       need-same : (ts : List Seconds) → PermittedAfter t js ts →
-          needAfter (n .pages * (t .0 / n .before .0) + cost j) t js ts ≡ needAfter (n .pages * (u .0 / n .before .0) + cost j) u js ts
+          needAfter (n .pages * (t .0 / n .before .0) + load j) t js ts ≡ needAfter (n .pages * (u .0 / n .before .0) + load j) u js ts
       need-same ts h =
           let p = n .before .0 in
+          let idle = none .for-need in
           let whole : t .0 / p ≡ u .0 / p * (t .0 / u .0) = quotient-trans p (u .0) (t .0) pos u-multiple t-multiple in
           let moved : n .pages * (u .0 / p) * (t .0 / u .0) ≡ n .pages * (t .0 / p) = mul-assoc (n .pages) (u .0 / p) (t .0 / u .0) ∙ ap (λ (x : ℕ). n .pages * x) (sym whole) in
-          let at-t : n .pages * (t .0 / p) + cost j ≡ n .pages * (u .0 / p) * (t .0 / u .0) = omega arith in
-          let at-u : n .pages * (u .0 / p) ≡ n .pages * (u .0 / p) + cost j = omega arith in
+          let at-t : n .pages * (t .0 / p) + load j ≡ n .pages * (u .0 / p) * (t .0 / u .0) = omega arith in
+          let at-u : n .pages * (u .0 / p) ≡ n .pages * (u .0 / p) + load j = omega arith in
           ap (λ (x : ℕ). needAfter x t js ts) at-t ∙ need-scaled u t u-pos t-pos t-multiple (n .pages * (u .0 / p)) js ts h ∙ ap (λ (x : ℕ). needAfter x u js ts) at-u
 
       stands : (ts : List Seconds) → PermittedAfter t js ts → atPlan f js (next j n t) ts s ≡ s
       stands ts h =
-          ap₂ (λ (q l : ℕ). f q (n .lost + l + loss js ts) ((n .periods ++ (t ∷ [])) ++ ts) s) (need-same ts h) (pageless-loss j t u none)
+          ap₂ (λ (q l : ℕ). f q (n .lost + l + loss js ts) ((n .periods ++ (t ∷ [])) ++ ts) s) (need-same ts h) (pageless-loss j t u (none .for-loss))
           ∙ settled ts (permitted-after-divisor u t u-pos t-pos t-multiple js ts h) ((n .periods ++ (t ∷ [])) ++ ts)
 
 module _ {A : Type 0} {Good : A → Type 0} {f : ℕ → ℕ → List Seconds → A → A} (a : Absorbs Good f) where
@@ -195,7 +201,7 @@ module _ {A : Type 0} (f : ℕ → ℕ → List Seconds → A → A) (j : Job) (
         which (no other) = earlier other
 
     -- a multiplier that repeats an earlier one, for a job without pages
-    pub settled-passes : cost j ≡ 0 → PassedOver (t / n .before .0) (roundUp (j .lo .0) (n .before .0)) → {order : Seconds → Job → List Seconds} → ListsAllowed order → walkBy order f js (next j n (seconds t)) s ≡ s
+    pub settled-passes : Pageless j → PassedOver (t / n .before .0) (roundUp (j .lo .0) (n .before .0)) → {order : Seconds → Job → List Seconds} → ListsAllowed order → walkBy order f js (next j n (seconds t)) s ≡ s
     settled-passes none r law =
         let p = n .before .0 in
         let a = t / p in

@@ -8,7 +8,7 @@ use native.Mathlib.Omega.{arith}
 use native.Mathlib.Nat.{mul-mod-left, mod-self, div-self, div-eq-of-eq-mul-left}
 use Rattle.model.specs.declared.Seconds.{Seconds}
 use Rattle.model.specs.declared.Job.{Job}
-use Rattle.model.specs.Model.{seconds, pagesPerHour, cost, PermittedAfter, Permitted, lastOf, pagesIn, roundUp, need}
+use Rattle.model.specs.Model.{seconds, pagesPerHour, load, PermittedAfter, Permitted, lastOf, pagesIn, roundUp, need}
 use Rattle.model.specs.Valid.{ValidJobs}
 use Rattle.walk.specs.Walk.{pagesAfter, needAfter}
 use Rattle.model.proofs.Rounding.{round-up-le, multiple-is}
@@ -51,7 +51,7 @@ pages-after pages before (j ∷ js) [] v pos h = absurd h
 pages-after pages before (j ∷ js) (t ∷ ts) v pos h =
     let p = before .0 in
     let last = lastOf t ts .0 in
-    let onward = pages-after (pages * (t .0 / p) + cost j) t js ts (v .1) (omega arith) (h .1) in
+    let onward = pages-after (pages * (t .0 / p) + load j) t js ts (v .1) (omega arith) (h .1) in
     let whole : last / p ≡ t .0 / p * (last / t .0) = quotient-trans p (t .0) last pos (h .0 .multiple) (last-multiple t js ts (h .1)) in
     let moved : pages * (last / p) ≡ pages * (t .0 / p * (last / t .0)) = ap (λ (x : ℕ). pages * x) whole in
     omega arith

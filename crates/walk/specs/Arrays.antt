@@ -7,7 +7,7 @@ use Prim.Native.Nat.{ℕ, _+_, _-_, _≤_, _<_}
 use lib.ListN.{length, getD}
 use Rattle.model.specs.declared.Job.{Job}
 use Rattle.model.specs.declared.Profile.{Profile}
-use Rattle.model.specs.Model.{noJob, entries, cost, rate}
+use Rattle.model.specs.Model.{noJob, entries, load, cost, rate}
 use Rattle.model.specs.Valid.{ValidJob}
 use Rattle.walk.specs.Walk.{leastNeeds}
 
@@ -33,7 +33,7 @@ pub record SecondsFrom (p : Profile) (k : ℕ) (xs : List ℕ) : Type 0 where
 
 pub record PagesFrom (p : Profile) (k : ℕ) (xs : List ℕ) : Type 0 where
   pub size : length xs ≡ 16
-  pub for-need : Filled first (λ m. cost (jobAt p m)) k (p .n) xs
+  pub for-need : Filled first (λ m. load (jobAt p m)) k (p .n) xs
   pub for-loss : Filled second (λ m. cost (jobAt p m)) k (p .n) xs
 
 -- What the jobs from place k on need at least.
@@ -56,7 +56,7 @@ module _ (spans runs rates weights : List ℕ) where
     pub valid : ValidJob j
     pub shortest : getD spans i 0 ≡ j .lo .0
     pub longest : getD spans (8 + i) 0 ≡ j .hi .0
-    pub for-need : getD runs i 0 ≡ cost j
+    pub for-need : getD runs i 0 ≡ load j
     pub for-loss : getD runs (8 + i) 0 ≡ cost j
     pub fastest : getD rates i 0 ≡ rate j (j .lo) .0
     pub later : getD rates (8 + (i + 1)) 0 ≡ leastNeeds js

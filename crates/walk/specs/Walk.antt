@@ -4,7 +4,7 @@ use mathlib.Core.List.{List, [], _∷_, _++_}
 use Prim.Native.Nat.{ℕ, _+_, _*_, _/_, _≤_, max}
 use Rattle.model.specs.declared.Seconds.{Seconds}
 use Rattle.model.specs.declared.Job.{Job}
-use Rattle.model.specs.Model.{seconds, cost, roundUp, lastOf, jobLoss}
+use Rattle.model.specs.Model.{seconds, load, roundUp, lastOf, jobLoss}
 use Rattle.model.proofs.Bounds.{mostLoss}
 use Rattle.walk.specs.Chains.{risingFrom, multiples, fallingFrom, multiplesDown}
 
@@ -12,7 +12,7 @@ use Rattle.walk.specs.Chains.{risingFrom, multiples, fallingFrom, multip
 unfoldable pub pagesAfter : ℕ → Seconds → List Job → List Seconds → ℕ
 pagesAfter pages before [] ts = pages
 pagesAfter pages before (j ∷ js) [] = pages
-pagesAfter pages before (j ∷ js) (t ∷ ts) = pagesAfter (pages * (t .0 / before .0) + cost j) t js ts
+pagesAfter pages before (j ∷ js) (t ∷ ts) = pagesAfter (pages * (t .0 / before .0) + load j) t js ts
 
 -- The need of a plan so completed: its hourly pages, rounded up.
 unfoldable pub needAfter : ℕ → Seconds → List Job → List Seconds → ℕ
@@ -26,7 +26,7 @@ lossFloor (j ∷ js) t = jobLoss j (seconds (max (j .lo .0) t)) + lossFloor js t
 -- What these jobs need at least.
 unfoldable pub leastNeeds : List Job → ℕ
 leastNeeds [] = 0
-leastNeeds (j ∷ js) = 3600 * cost j / j .hi .0 + leastNeeds js
+leastNeeds (j ∷ js) = 3600 * load j / j .hi .0 + leastNeeds js
 
 -- What a plan needs at least, whose jobs before these write `pages` in `before` seconds.
 unfoldable pub needFloor : ℕ → Seconds → List Job → ℕ
@@ -52,7 +52,7 @@ start = record { before = seconds 1; pages = 0; lost = 0; periods = [] }
 
 -- The part with one more job, at period `t`.
 abbrev pub next : Job → Node → Seconds → Node
-next j n t = record { before = t; pages = n .pages * (t .0 / n .before .0) + cost j; lost = n .lost + jobLoss j t; periods = n .periods ++ (t ∷ []) }
+next j n t = record { before = t; pages = n .pages * (t .0 / n .before .0) + load j; lost = n .lost + jobLoss j t; periods = n .periods ++ (t ∷ []) }
 
 -- Job by job through the periods that `order` lists; each whole plan, its need and its loss go to `f`.
 unfoldable pub walkBy : {A : Type 0} → (Seconds → Job → List Seconds) → (ℕ → ℕ → List Seconds → A → A) → List Job → Node → A → A

@@ -11,7 +11,7 @@ use model::Seconds;
 ghost use mathlib.Core.Path.{_≡_};
 ghost use mathlib.Core.Bool.{true, false};
 ghost use Prim.Native.Nat.{_≤_, _<_, max};
-ghost use Rattle.model.specs.Model.{pagesPerHour, cost};
+ghost use Rattle.model.specs.Model.{pagesPerHour, load, cost};
 ghost use Rattle.model.specs.Valid.{Valid, ValidJob};
 ghost use Rattle.walk.specs.Arrays.{SecondsFrom, PagesFrom, RatesFrom, StiffnessesFrom};
 ghost use Rattle.walk.specs.Steps.{lossAt, LossFits, needAt, NeedFits, Ends, Unreached, PassedOver, Repeats, Later, IsLossFloor};
@@ -84,7 +84,7 @@ pub fn stiffnesses_of(p: Profile) -> [u32; 8]
 // The pages of a run, as need counts them and as loss counts them.
 fn need_pages(j: Job) -> u32
     requires { ⌜ ValidJob j ⌝ }
-    ensures { λ r. ⌜ r ≡ cost j ⌝ }
+    ensures { λ r. ⌜ r ≡ load j ⌝ }
 {
     j.data + j.metadata
 }

@@ -3,7 +3,7 @@
 use Prim.Native.Nat.{ℕ, _*_, _/_, _≤_}
 use mathlib.Core.Path.{_≡_, ap}
 use native.Mathlib.Nat.{le-trans, le-of-eq, div-le-self}
-use Rattle.model.specs.Model.{cost}
+use Rattle.model.specs.Model.{load}
 use Rattle.sums.proofs.Sums.{run-pages-bound}
 use native.Mathlib.Omega.{arith}
 use borrow.Author.Needs.{needs}
@@ -19,10 +19,10 @@ cast-runs c = omega (arith, div-le-self (c .before .before .args .span .0) (c .b
 run-pages-requires : tie.Need-run-pages-requires
 run-pages-requires c κs = search needs
 
-is : (c : tie.After-run-pages) → c .run-pages .result * (c .before .before .before .args .span .0 / c .before .before .before .args .t .0) ≡ cost (c .before .before .before .args .j) * (c .before .before .before .args .span .0 / c .before .before .before .args .t .0)
-is c = ap (λ (x : ℕ). x * (c .before .before .before .args .span .0 / c .before .before .before .args .t .0)) (c .run-pages .ensures)
+is : (c : tie.After-run-pages) → c .run-pages .result * (c .before .before .before .args .span .0 / c .before .before .before .args .t .0) ≡ load (c .before .before .before .args .j) * (c .before .before .before .args .span .0 / c .before .before .before .args .t .0)
+is c = ap (λ (x : ℕ). x * (c .before .before .before .args .span .0 / c .before .before .before .args .t .0)) (c .run-pages .ensures .0)
 
-small : (c : tie.After-run-pages) → cost (c .before .before .before .args .j) * (c .before .before .before .args .span .0 / c .before .before .before .args .t .0) ≤ 65534 * c .before .before .before .args .span .0
+small : (c : tie.After-run-pages) → load (c .before .before .before .args .j) * (c .before .before .before .args .span .0 / c .before .before .before .args .t .0) ≤ 65534 * c .before .before .before .args .span .0
 small c =
     let s = c .before .before .before in
     run-pages-bound (s .args .j) (s .args .span .0) (s .args .t .0) (s .pre .0)

@@ -3,7 +3,7 @@
 use Prim.Native.Nat.{_*_, _/_, _≤_}
 use native.Mathlib.Nat.{le-trans, mul-le-mul, div-le-self}
 use native.Mathlib.Omega.{arith}
-use Rattle.model.proofs.Bounds.{cost-bound}
+use Rattle.model.proofs.Bounds.{load-bound}
 use borrow.Author.Needs.{needs}
 use Rattle.table_row.proofs.written_with.Statement.{statement}
 use Rattle.table_row.proofs.written_with.Tie as tie
@@ -29,7 +29,7 @@ cast-result-2 : tie.Need-cast-result-2
 cast-result-2 c = search needs
 
 add-result : tie.Need-add-result
-add-result c = omega (arith, small (c .before .before .before), c .run-pages .ensures, cost-bound _ (c .before .before .before .pre .0))
+add-result c = omega (arith, small (c .before .before .before), c .run-pages .ensures .0, load-bound _ (c .before .before .before .pre .0))
 
 returns : tie.Need-returns
 returns c = search needs

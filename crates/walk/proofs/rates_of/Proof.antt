@@ -4,6 +4,7 @@ use mathlib.Core.Path.{_≡_, sym}
 use mathlib.Core.List.{List}
 use Prim.Native.Nat.{ℕ, _-_, _≤_}
 use Rattle.model.specs.declared.Profile.{Profile}
+use Rattle.model.proofs.Bounds.{load-bound, cost-bound}
 use Rattle.walk.specs.Arrays.{needsFrom, RatesFrom}
 use Rattle.walk.proofs.Filled.{valid-at, needs-to, needs-none, needs-more, rates-none, rates-more}
 use borrow.Author.Needs.{needs}
@@ -50,7 +51,7 @@ mul-rates c =
     let s = c .before .before .before .before in
     let pos = c .before .before .loop-test .taken in
     let v = valid-at (s .pre) (l .k - 1) (omega (arith, l .inv .upto)) in
-    omega (arith, c .loss-pages .ensures)
+    omega (arith, c .loss-pages .ensures, cost-bound _ v)
 
 div-rates : tie.Need-div-rates Inv-loop μ-loop
 div-rates c =
@@ -79,7 +80,7 @@ mul-needs c =
     let s = c .before .before .before .before .before .before in
     let pos = c .before .before .before .before .loop-test .taken in
     let v = valid-at (s .pre) (l .k - 1) (omega (arith, l .inv .upto)) in
-    omega (arith, c .need-pages .ensures)
+    omega (arith, c .need-pages .ensures, load-bound _ v)
 
 div-needs : tie.Need-div-needs Inv-loop μ-loop
 div-needs c =

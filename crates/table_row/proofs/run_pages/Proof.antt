@@ -1,0 +1,17 @@
+-- `table_row::run_pages` meets its contract: the sum is the definition's, of two numbers that fit.
+-- Assumes nothing.
+use mathlib.Core.Path.{refl}
+use Rattle.model.specs.Model.{load, cost}
+use borrow.Author.Needs.{needs}
+use Rattle.table_row.proofs.run_pages.Statement.{statement}
+use Rattle.table_row.proofs.run_pages.Tie as tie
+
+add-result : tie.Need-add-result
+add-result c = search needs
+
+returns : tie.Need-returns
+unfolding load cost
+returns c = (refl, refl)
+
+pub run-pages-spec : {M : Type 1} → statement M
+run-pages-spec = tie.close (tie.spec add-result returns)

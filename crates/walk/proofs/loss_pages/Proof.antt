@@ -1,0 +1,17 @@
+-- `walk::loss_pages` meets its contract: the sum is the definition's, of two numbers that fit.
+-- Assumes nothing.
+use mathlib.Core.Path.{refl}
+use Rattle.model.specs.Model.{cost}
+use borrow.Author.Needs.{needs}
+use Rattle.walk.proofs.loss_pages.Statement.{statement}
+use Rattle.walk.proofs.loss_pages.Tie as tie
+
+add-result : tie.Need-add-result
+add-result c = search needs
+
+returns : tie.Need-returns
+unfolding cost
+returns c = refl
+
+pub loss-pages-spec : {M : Type 1} → statement M
+loss-pages-spec = tie.close (tie.spec add-result returns)
