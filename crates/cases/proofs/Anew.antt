@@ -34,7 +34,7 @@ use Rattle.choose.proofs.LeastNeed.{walk-least}
 use Rattle.choose.proofs.Settled.{settled}
 use Rattle.choose.proofs.OneOutcome.{choose-one-outcome}
 use Rattle.zones.specs.Zones.{rowsOf}
-use Rattle.zones.proofs.Outcome.{zonesOf, are-zones}
+use Rattle.zones.proofs.Outcome.{zonesOf, are-zones, none-of as no-zones}
 use Rattle.zones.proofs.OneOutcome.{list-zones-one-outcome}
 use Rattle.table.specs.Table.{tableBytes}
 use Rattle.table.proofs.Outcome.{rowsOf as tableOf, are-rows, none-of}
@@ -153,7 +153,7 @@ anew-right (permitting p verdict lists) = (
 anew-right (choosing p b answer) = λ r chosen. choose-one-outcome p (pagesPerHour b) chosen (choice-meets p b)
 anew-right (scoring p ts answer) = λ r scores. score-one-outcome p ts scores (score-meets p ts)
 anew-right (listing p answer bytes) = λ old room r new listed.
-    rows-right p (length (zonesOf p)) (rowsOf (zonesOf p)) old room (list-zones-one-outcome p old listed (record { zones = zonesOf p; are = are-zones p; puts = record { verdict = refl; count = refl; bytes = refl } }))
+    rows-right p (length (zonesOf p)) (rowsOf (zonesOf p)) old room (list-zones-one-outcome p old listed (record { zones = zonesOf p; are = are-zones p; none = no-zones p; puts = record { verdict = refl; count = refl; bytes = refl } }))
 anew-right (building p answer bytes) = λ old room r new built.
     rows-right p (length (tableOf p)) (tableBytes (jobsOf p) (tableOf p)) old room (build-table-one-outcome p old built (record { rows = tableOf p; are = are-rows p; none = none-of p; puts = record { verdict = refl; count = refl; bytes = refl } }))
 anew-right (lookingUp p table b answer bytes) = (

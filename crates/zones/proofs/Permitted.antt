@@ -111,11 +111,15 @@ range-whole js {z} a = (λ h i. less h (a .range (z .least .0 - 1) .1 i .0), λ 
     more k = omega arith
 
 -- There are no zones exactly when nothing is permitted (9).
-pub none-permitted : (js : List Job) → 1 ≤ length js → ValidJobs js → (zonesFor js ≡ []) ↔ ((ts : List Seconds) → Permitted js ts → ⊥)
-none-permitted js h v = (λ e ts p. let r = permitted-lies js ts v h p in List·Memᴰ·not-nil (rw e at (r .1)), λ never. go never (zonesFor js) refl)
+pub none-permitted : (js : List Job) → 1 ≤ length js → ValidJobs js → (length (zonesFor js) ≡ 0) ↔ ((ts : List Seconds) → Permitted js ts → ⊥)
+none-permitted js h v = (λ e ts p. let r = permitted-lies js ts v h p in no-member (zonesFor js) e (r .1), λ never. go never (zonesFor js) refl)
   where
-    go : ((ts : List Seconds) → Permitted js ts → ⊥) → (zs : List Zone) → zonesFor js ≡ zs → zonesFor js ≡ []
-    go never [] e = e
+    no-member : (zs : List Zone) {z : Zone} → length zs ≡ 0 → List·Memᴰ z zs → ⊥
+    no-member [] e m = List·Memᴰ·not-nil m
+    no-member (z ∷ zs) e m = suc-ne-zero _ e
+
+    go : ((ts : List Seconds) → Permitted js ts → ⊥) → (zs : List Zone) → zonesFor js ≡ zs → length (zonesFor js) ≡ 0
+    go never [] e = ap length e
     go never (z ∷ zs) e =
         let i : List·Memᴰ z (zonesFor js) = rw e (List·Memᴰ·head refl) in
         let r = zone-permits js h v (listing-is js h v .only z i) in

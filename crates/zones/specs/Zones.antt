@@ -5,11 +5,12 @@ use mathlib.Core.Logic.{_↔_}
 use mathlib.Core.List.{List, [], _∷_, _++_, List·Memᴰ}
 use Prim.Native.Nat.{ℕ, _*_, _%_, _≤_}
 use lib.ListN.{length, getD}
+use Rattle.model.specs.declared.Seconds.{Seconds}
 use Rattle.model.specs.declared.Job.{Job}
 use Rattle.model.specs.declared.Profile.{Profile}
 use Rattle.model.specs.declared.Counted.{Counted}
 use Rattle.model.specs.declared.Verdict.the-variants.{Sound}
-use Rattle.model.specs.Model.{entries, jobsOf, verdictOf, PutsRows}
+use Rattle.model.specs.Model.{entries, jobsOf, Permitted, verdictOf, PutsRows}
 use Rattle.codec.specs.Layout.{byteWidths}
 use Rattle.codec.specs.Packing.{recut}
 use Rattle.zone_walk.specs.Zone.{Zone}
@@ -65,8 +66,9 @@ rowsOf [] = []
 rowsOf (z ∷ zs) = recut zoneWidths (byteWidths 16) (zoneFields z) ++ rowsOf zs
 
 -- What `list_zones` may answer, and leave of a lent buffer that held `old`; for a refused profile nothing is said of `zones`.
--- There are no zones, and so 9 is answered, exactly where nothing is permitted: none-permitted in proofs/Permitted.antt.
+-- There are no zones, and so 9 is answered, exactly where no list is permitted (Refusal numbers, 9).
 pub record Listed (p : Profile) (old : List ℕ) (r : Counted) (new : List ℕ) : Type 0 where
   pub zones : List Zone
   pub are : verdictOf p ≡ Sound → ZonesOf (jobsOf p) zones
+  pub none : verdictOf p ≡ Sound → (length zones ≡ 0) ↔ ((ts : List Seconds) → Permitted (jobsOf p) ts → ⊥)
   pub puts : PutsRows p (length zones) (rowsOf zones) old r new
