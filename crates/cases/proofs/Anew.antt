@@ -42,7 +42,7 @@ use Rattle.table.proofs.OneOutcome.{build-table-one-outcome}
 use Rattle.table_row.specs.Table.{rowsIn}
 use Rattle.table_lookup.specs.Lookup.{lookupVerdict, lastWithin}
 use Rattle.table_lookup.proofs.OneOutcome.{locate-one-outcome}
-use Rattle.cases.proofs.Cases.{Case, permitting, choosing, scoring, listing, building, lookingUp, Right}
+use Rattle.cases.specs.Case.{Case, permitting, choosing, scoring, listing, building, lookingUp, Right}
 
 -- choosing: what both walks leave, unless the profile is refused
 unfoldable pub choiceFor : Profile → ℕ → Choice

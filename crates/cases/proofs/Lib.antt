@@ -1,3 +1,2 @@
-pub mod Cases
 pub mod Anew
 pub mod Worked

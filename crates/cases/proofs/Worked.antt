@@ -18,12 +18,14 @@ use Rattle.table.specs.Descent.{upTo, descent}
 use Rattle.table_row.specs.Table.{rowFields, follows}
 use Rattle.table_check.specs.Checks.{placeRight, placesRight, rowRight, firstBad}
 use Rattle.table_lookup.specs.Lookup.{tableVerdict, lookupVerdict, lastWithin}
-use Rattle.cases.proofs.Cases.{Case, Right, cases}
+use Rattle.cases.specs.Case.{Case, Right}
+use Rattle.cases.specs.Cases.{cases}
 use Rattle.cases.proofs.Anew.{choiceFor, scoreFor, counted, roomy, countFor, bytesFor, anew, anew-right}
 
-computed : map anew cases ≡ cases
-unfolding cases anew chainsBy choiceFor scoreFor counted roomy countFor bytesFor settle walkBy visit pick lessNeed beats multiples risingFrom climb multiplesDown fallingFrom descend load cost rate jobLoss entries verdictOf refuseIf orElse ifSound firstRefused judgeIntervalAndStiffness judgeJob need loss pagesIn lastOf scoreVerdict firstUnpermitted judgePeriod zonesIn zonesBelow unlessEmpty upToLast climbUp flatMap rowsOf recut pack unpack bits tableBytes tableRow descent upTo lookupVerdict tableVerdict firstBad rowRight placesRight placeRight allows follows rowFields lastWithin
-computed = refl
+-- Computing every answer of a list anew gives the same list. To unfold this is to unfold all that is computed with.
+unfoldable pub Computed : List Case → Type 0
+unfolding anew chainsBy choiceFor scoreFor counted roomy countFor bytesFor settle walkBy visit pick lessNeed beats multiples risingFrom climb multiplesDown fallingFrom descend load cost rate jobLoss entries verdictOf refuseIf orElse ifSound firstRefused judgeIntervalAndStiffness judgeJob need loss pagesIn lastOf scoreVerdict firstUnpermitted judgePeriod zonesIn zonesBelow unlessEmpty upToLast climbUp flatMap rowsOf recut pack unpack bits tableBytes tableRow descent upTo lookupVerdict tableVerdict firstBad rowRight placesRight placeRight allows follows rowFields lastWithin
+Computed cs = map anew cs ≡ cs
 
 same-head : {A : Type 0} {x y : A} {xs ys : List A} → x ∷ xs ≡ y ∷ ys → x ≡ y
 same-head e = cc
@@ -36,6 +38,15 @@ same-at : {A : Type 0} (f : A → A) (xs : List A) {x : A} → map f xs ≡ xs �
 same-at f (y ∷ xs) e (List·Memᴰ·head h) = ap f h ∙ same-head e ∙ sym h
 same-at f (y ∷ xs) e (List·Memᴰ·tail m) = same-at f xs (same-tail e) m
 
+-- Such a list is right.
+pub all-right : (cs : List Case) → Computed cs → (c : Case) → List·Memᴰ c cs → Right c
+unfolding Computed
+all-right cs computed c m = subst Right (same-at anew cs computed m) (anew-right c)
+
+computed : Computed cases
+unfolding cases Computed
+computed = refl
+
 -- For every case of the list, whatever the contract allows is what stands there.
 pub worked : (c : Case) → List·Memᴰ c cases → Right c
-worked c m = subst Right (same-at anew cases computed m) (anew-right c)
+worked = all-right cases computed

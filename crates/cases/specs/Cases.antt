@@ -1,100 +1,33 @@
 -- Document 01's numbers as one list: an entry says what is asked, of which profile, and what must come out.
 -- Assumes nothing.
-use mathlib.Core.Path.{_≡_}
-use mathlib.Core.Logic.{_↔_}
-use mathlib.Core.List.{List, [], _∷_, _++_, map, List·Memᴰ}
-use Prim.Native.Nat.{ℕ, _+_, _*_, _-_, _/_, _≤_}
-use lib.ListN.{length, take, drop, replicate}
+use mathlib.Core.List.{List, [], _∷_, map}
+use Prim.Native.Nat.{ℕ}
+use lib.ListN.{take}
 use Rattle.model.specs.declared.Seconds.{Seconds}
-use Rattle.model.specs.declared.Job.{Job}
 use Rattle.model.specs.declared.Profile.{Profile}
-use Rattle.model.specs.declared.Counted.{Counted}
-use Rattle.model.specs.declared.Verdict.{Verdict}
-use Rattle.model.specs.declared.Verdict.the-variants.{Sound, NoPeriods, Budget, Row}
-use Rattle.model.specs.Model.{seconds, pagesPerHour, jobsOf, Permitted, verdictOf, padded}
-use Rattle.score.specs.declared.Scored.{Scored}
-use Rattle.score.specs.Scoring.{Scores}
-use Rattle.choose.specs.declared.Choice.{Choice}
-use Rattle.choose.specs.Choice.{refused, Chosen}
-use Rattle.zones.specs.Zones.{Listed}
-use Rattle.table.specs.Table.{Built}
-use Rattle.table_lookup.specs.Lookup.{lookupVerdict, LooksUp, Locates}
+use Rattle.model.specs.declared.Verdict.the-variants.{Sound, NoPeriods, Row}
+use Rattle.model.specs.Model.{seconds}
+use Rattle.choose.specs.Choice.{refused}
+use Rattle.cases.specs.Case.{Case, permitting, choosing, scoring, listing, building, lookingUp, job, interval, profile, eight, plan, scored, below, number, noNumber, rows}
 
--- What is asked of a profile, then what must come out: the answer, and the bytes of the rows written or of the row handed back.
-pub data Case : Type 0 where
-  permitting : Profile → Verdict → (lists : List (List Seconds)) → Case
-  choosing : Profile → (budget : ℕ) → Choice → Case
-  scoring : Profile → (periods : List Seconds) → Scored → Case
-  listing : Profile → Counted → (bytes : List ℕ) → Case
-  building : Profile → Counted → (bytes : List ℕ) → Case
-  lookingUp : Profile → (table : List ℕ) (budget : ℕ) → Counted → (bytes : List ℕ) → Case
-
--- The permitted lists are these and no others; whatever the public contract allows is what must come out; zones and table are written into any room that is enough.
-abbrev pub Right : Case → Type 0
-Right (permitting p verdict lists) = (verdictOf p ≡ verdict) × (verdict ≡ Sound → (ts : List Seconds) → Permitted (jobsOf p) ts ↔ List·Memᴰ ts lists)
-Right (choosing p b answer) = (r : Choice) → Chosen p (pagesPerHour b) r → r ≡ answer
-Right (scoring p ts answer) = (r : Scored) → Scores p ts r → r ≡ answer
-Right (listing p answer bytes) =
-    (old : List ℕ) → answer .count ≤ length old / 16 → (r : Counted) (new : List ℕ) → Listed p old r new → (r ≡ answer) × (new ≡ bytes ++ drop (16 * answer .count) old)
-Right (building p answer bytes) =
-    (old : List ℕ) → answer .count ≤ length old / 16 → (r : Counted) (new : List ℕ) → Built p old r new → (r ≡ answer) × (new ≡ bytes ++ drop (16 * answer .count) old)
-Right (lookingUp p table b answer bytes) =
-    ((r : Counted) → Locates p table (pagesPerHour b) r → r ≡ answer)
-    × ((v : Verdict) → v ≡ lookupVerdict p table (pagesPerHour b) → v ≡ answer .verdict)
-    × ((lies at : ℕ × ℕ) (part : List ℕ) → LooksUp p table lies (pagesPerHour b) part at → (part ≡ bytes) × (at ≡ (lies .0, lies .1 + 16 * (answer .count - 1))))
-
-abbrev job : ℕ → ℕ → ℕ → ℕ → ℕ → Job
-job lo hi d g w = record { lo = seconds lo; hi = seconds hi; «data» = d; metadata = g; stiffness = w }
-
--- where only c = 1 is given
-abbrev interval : ℕ → ℕ → Job
-interval lo hi = job lo hi 1 0 1
-
--- beyond the jobs stand others that would be refused
-abbrev profile : List Job → Profile
-profile js = record { n = length js; jobs = js ++ replicate (8 - length js) (job 9 3 99999 99999 77) }
-
-abbrev profileA : Profile
+-- The profile that document 01 works with.
+abbrev pub profileA : Profile
 profileA = profile (job 20 25 9 1 1 ∷ job 43 74 18 2 1 ∷ job 45 100 36 4 1 ∷ [])
 
-abbrev eight : List ℕ → List Seconds
-eight ts = padded (seconds 0) (map seconds ts)
-
-abbrev plan : ℕ → ℕ → List ℕ → Choice
-plan q l ts = record { verdict = Sound; periods = eight ts; need = pagesPerHour q; loss = l }
-
-abbrev scored : ℕ → ℕ → Scored
-scored q l = record { verdict = Sound; need = pagesPerHour q; loss = l }
-
-abbrev below : ℕ → Verdict
-below m = Budget (pagesPerHour m)
-
--- the number of rows, or of the row that answers
-abbrev number : ℕ → Counted
-number k = record { verdict = Sound; count = k }
-
-abbrev noNumber : Verdict → Counted
-noNumber v = record { verdict = v; count = 0 }
-
--- rows of sixteen bytes: those given, then zeros
-abbrev rows : List (List ℕ) → List ℕ
-rows [] = []
-rows (bytes ∷ more) = bytes ++ (replicate (16 - length bytes) 0 ++ rows more)
-
--- A's table: at 4,320, 4,500, 5,143 and 5,400, and whole
-abbrev row₁ : List ℕ
+-- A's table: the rows at 4,320, 4,500, 5,143 and 5,400, and the whole.
+abbrev pub row₁ : List ℕ
 row₁ = 0x00 ∷ 0x00 ∷ 0x10 ∷ 0xE0 ∷ 0x01 ∷ 0x90 ∷ 0x32 ∷ 0x06 ∷ 0x40 ∷ []
 
-abbrev row₂ : List ℕ
+abbrev pub row₂ : List ℕ
 row₂ = 0x00 ∷ 0x00 ∷ 0x11 ∷ 0x94 ∷ 0x01 ∷ 0x80 ∷ 0x48 ∷ 0x04 ∷ 0x80 ∷ []
 
-abbrev row₅ : List ℕ
+abbrev pub row₅ : List ℕ
 row₅ = 0x00 ∷ 0x00 ∷ 0x14 ∷ 0x17 ∷ 0x01 ∷ 0x50 ∷ 0x3F ∷ 0x03 ∷ 0xF0 ∷ []
 
-abbrev row₆ : List ℕ
+abbrev pub row₆ : List ℕ
 row₆ = 0x00 ∷ 0x00 ∷ 0x15 ∷ 0x18 ∷ 0x01 ∷ 0x40 ∷ 0x3C ∷ 0x03 ∷ 0xC0 ∷ []
 
-abbrev tableA : List ℕ
+abbrev pub tableA : List ℕ
 tableA =
     rows
     (row₁
@@ -108,8 +41,8 @@ tableA =
     ∷ (0x00 ∷ 0x00 ∷ 0x18 ∷ 0x75 ∷ 0x01 ∷ 0x70 ∷ 0x2E ∷ 0x02 ∷ 0xE0 ∷ [])
     ∷ [])
 
--- A's zones: (1,2,2) for 23 to 25, (1,2,4) for 22 to 25, (1,3,3) for 20 to 24
-abbrev zonesA : List ℕ
+-- A's zones: (1,2,2) for 23 to 25, (1,2,4) for 22 to 25, (1,3,3) for 20 to 24.
+abbrev pub zonesA : List ℕ
 zonesA =
     rows
     ((0x01 ∷ 0x70 ∷ 0x19 ∷ 0x00 ∷ 0x20 ∷ 0x02 ∷ [])
@@ -117,8 +50,8 @@ zonesA =
     ∷ (0x01 ∷ 0x40 ∷ 0x18 ∷ 0x00 ∷ 0x30 ∷ 0x03 ∷ [])
     ∷ [])
 
--- (1,2,2) for 10, (1,2,4) for 6 to 10, (1,2,6) for 6, (1,3,3) for 7, (1,3,6) for 6
-abbrev fiveZones : List ℕ
+-- The zones of [6,10], [11,22], [19,40]: (1,2,2) for 10, (1,2,4) for 6 to 10, (1,2,6) for 6, (1,3,3) for 7, (1,3,6) for 6.
+abbrev pub fiveZones : List ℕ
 fiveZones =
     rows
     ((0x00 ∷ 0xA0 ∷ 0x0A ∷ 0x00 ∷ 0x20 ∷ 0x02 ∷ [])
@@ -128,7 +61,8 @@ fiveZones =
     ∷ (0x00 ∷ 0x60 ∷ 0x06 ∷ 0x00 ∷ 0x30 ∷ 0x06 ∷ [])
     ∷ [])
 
-abbrev nineLists : List (List Seconds)
+-- And their permitted lists.
+abbrev pub nineLists : List (List Seconds)
 nineLists =
     map (map seconds)
     ((6 ∷ 12 ∷ 24 ∷ [])
@@ -142,6 +76,7 @@ nineLists =
     ∷ (10 ∷ 20 ∷ 40 ∷ [])
     ∷ [])
 
+-- The cases.
 unfoldable pub cases : List Case
 cases =
     -- P1
