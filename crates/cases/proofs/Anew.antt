@@ -17,6 +17,12 @@ use Rattle.model.specs.declared.Verdict.the-variants.{Sound, NoPeriods, Room}
 use Rattle.model.specs.Model.{seconds, pagesPerHour, jobsOf, periodsOf, need, loss, numberOf, refuseIf, orElse, ifSound, verdictOf, rowsVerdict}
 use Rattle.model.proofs.Validity.{sound-valid}
 use Rattle.model.proofs.Verdicts.{sound-of-zero, beside-sound}
+use Rattle.codec.specs.Layout.{profileLength, profileBytes}
+use Rattle.profile_read.specs.declared.Reading.{Reading}
+use Rattle.profile_read.specs.Reading.{verdictOfBytes, valuesOf, noProfile}
+use Rattle.profile_read.proofs.OneOutcome.{read-profile-one-outcome}
+use Rattle.profile_write.specs.Writing.{writeVerdict, Writes}
+use Rattle.profile_write.proofs.OneOutcome.{write-profile-one-outcome}
 use Rattle.score.specs.declared.Scored.{Scored}
 use Rattle.score.specs.Scoring.{scoreVerdict, Scores}
 use Rattle.score.proofs.OneOutcome.{score-one-outcome}
@@ -33,16 +39,16 @@ use Rattle.choose_walk.proofs.Fold.{walk-best}
 use Rattle.choose.proofs.LeastNeed.{walk-least}
 use Rattle.choose.proofs.Settled.{settled}
 use Rattle.choose.proofs.OneOutcome.{choose-one-outcome}
-use Rattle.zones.specs.Zones.{rowsOf}
-use Rattle.zones.proofs.Outcome.{zonesOf, are-zones, none-of as no-zones}
+use Rattle.zones.specs.Zones.{rowsOf, Listed}
+use Rattle.zones.proofs.Outcome.{zonesOf, listed}
 use Rattle.zones.proofs.OneOutcome.{list-zones-one-outcome}
-use Rattle.table.specs.Table.{tableBytes}
-use Rattle.table.proofs.Outcome.{rowsOf as tableOf, are-rows, none-of}
+use Rattle.table.specs.Table.{tableBytes, Built}
+use Rattle.table.proofs.Outcome.{rowsOf as tableOf, built}
 use Rattle.table.proofs.OneOutcome.{build-table-one-outcome}
 use Rattle.table_row.specs.Table.{rowsIn}
 use Rattle.table_lookup.specs.Lookup.{lookupVerdict, lastWithin}
 use Rattle.table_lookup.proofs.OneOutcome.{locate-one-outcome}
-use Rattle.cases.specs.Case.{Case, permitting, choosing, scoring, listing, building, lookingUp, Right}
+use Rattle.cases.specs.Case.{Case, reading, writing, writingIn, permitting, scoring, choosing, listing, listingIn, building, buildingIn, lookingUp, Right}
 
 -- choosing: what both walks leave, unless the profile is refused
 unfoldable pub choiceFor : Profile → ℕ → Choice
@@ -73,51 +79,68 @@ score-meets : (p : Profile) (ts : List Seconds) → Scores p ts (scoreFor p ts)
 unfolding scoreFor
 score-meets p ts = record { verdict = refl; need = refl; loss = refl }
 
--- a count beside a verdict
+-- reading
+unfoldable pub readingFor : List ℕ → Reading
+readingFor bytes = record { verdict = verdictOfBytes bytes; profile = ifSound (verdictOfBytes bytes) (valuesOf bytes) noProfile }
+
+-- beside a verdict: a count, and a buffer after `size` bytes were put at its front
 unfoldable pub counted : Verdict → ℕ → Counted
 counted v k = record { verdict = v; count = ifSound v k 0 }
 
--- the verdict on so many rows in a room that is enough, and in one of so many bytes
-unfoldable pub roomy : Verdict → ℕ → Verdict
-roomy own count = orElse own (refuseIf (eqb count 0) NoPeriods Sound)
+unfoldable pub after : Verdict → List ℕ → ℕ → List ℕ → List ℕ
+after v bytes size old = ifSound v (bytes ++ drop size old) old
 
-abbrev within : Verdict → ℕ → ℕ → Verdict
-within own count size = orElse own (refuseIf (eqb count 0) NoPeriods (refuseIf (ltb (size / 16) count) (Room count) Sound))
+-- answer and buffer, so computed
+abbrev Puts : Verdict → ℕ → List ℕ → ℕ → List ℕ → Counted → List ℕ → Type 0
+Puts v k bytes size old r new = (r ≡ counted v k) × (new ≡ after v bytes size old)
 
-enough : (own : Verdict) (count size : ℕ) → counted (roomy own count) count .count ≤ size / 16 → within own count size ≡ roomy own count
-unfolding counted roomy orElse refuseIf ifSound
-enough own count size = go (eqb (numberOf own) 0) refl (eqb count 0) refl
+-- the verdict on so many rows before room is asked for
+unfoldable pub roomy : Profile → ℕ → Verdict
+roomy p count = orElse (verdictOf p) (refuseIf (eqb count 0) NoPeriods Sound)
+
+-- Room is asked for last: where there is enough, the verdict before it stays, and what is left of a buffer is told by what stands beside it.
+abbrev withRoom : Verdict → ℕ → ℕ → Verdict
+withRoom v k room = orElse v (refuseIf (ltb room k) (Room k) Sound)
+
+module _ (v : Verdict) (k room : ℕ) (bytes old : List ℕ) where
+  enough : counted v k .count ≤ room → withRoom v k room ≡ v
+  unfolding counted orElse refuseIf ifSound
+  enough = go (eqb (numberOf v) 0) refl
+    where
+      go : (t : Bool) → eqb (numberOf v) 0 ≡ t → counted v k .count ≤ room → withRoom v k room ≡ v
+      go false e h = simp e
+      go true e h =
+          let fits : k ≤ room = simp e at h in
+          simp (e, le-ltb room k fits) (sym (sound-of-zero v (eqb-true _ 0 e)))
+
+  left-beside : (size : ℕ → ℕ) → size 0 ≡ 0 → after v bytes (size k) old ≡ ifSound v bytes [] ++ drop (size (counted v k .count)) old
+  unfolding counted after ifSound
+  left-beside size nil = go (eqb (numberOf v) 0) refl
+    where
+      go : (t : Bool) → eqb (numberOf v) 0 ≡ t → after v bytes (size k) old ≡ ifSound v bytes [] ++ drop (size (counted v k .count)) old
+      go true e = simp e
+      go false e = simp (e, nil)
+
+  pub in-room : (size : ℕ → ℕ) → size 0 ≡ 0 → counted v k .count ≤ room → {w : Verdict} → w ≡ withRoom v k room → {r : Counted} {new : List ℕ} → Puts w k bytes (size k) old r new
+      → (r ≡ counted v k) × (new ≡ ifSound v bytes [] ++ drop (size (counted v k .count)) old)
+  in-room size nil h is put =
+      let e = is ∙ enough h in
+      (put .0 ∙ ap (λ (u : Verdict). counted u k) e, put .1 ∙ ap (λ (u : Verdict). after u bytes (size k) old) e ∙ left-beside size nil)
+
+-- for rows as for a profile
+room-last : (p : Profile) (count size : ℕ) → rowsVerdict p count size ≡ withRoom (roomy p count) count (size / 16)
+unfolding rowsVerdict roomy orElse refuseIf
+room-last p count size = go (eqb (numberOf (verdictOf p)) 0) refl (eqb count 0) refl
   where
-    go : (s : Bool) → eqb (numberOf own) 0 ≡ s → (z : Bool) → eqb count 0 ≡ z → counted (roomy own count) count .count ≤ size / 16 → within own count size ≡ roomy own count
-    go false e z f h = simp e
-    go true e true f h = simp (e, f)
-    go true e false f h =
-        let k : count ≤ size / 16 = simp (e, f) at h in
-        simp (e, f, le-ltb (size / 16) count k)
-
--- what is left of a buffer, told by what stands beside the verdict
-left-beside : (v : Verdict) (count : ℕ) (bytes old : List ℕ) → ifSound v (bytes ++ drop (16 * count) old) old ≡ ifSound v bytes [] ++ drop (16 * counted v count .count) old
-unfolding counted ifSound
-left-beside v count bytes old = go (eqb (numberOf v) 0) refl
-  where
-    go : (t : Bool) → eqb (numberOf v) 0 ≡ t → ifSound v (bytes ++ drop (16 * count) old) old ≡ ifSound v bytes [] ++ drop (16 * counted v count .count) old
-    go true e = simp e
-    go false e = simp e
-
--- listing and building in a room that is enough: the count of the rows, and their bytes
-unfoldable pub countFor : Profile → ℕ → Counted
-countFor p count = counted (roomy (verdictOf p) count) count
-
-unfoldable pub bytesFor : Profile → ℕ → List ℕ → List ℕ
-bytesFor p count bytes = ifSound (roomy (verdictOf p) count) bytes []
+    go : (s : Bool) → eqb (numberOf (verdictOf p)) 0 ≡ s → (z : Bool) → eqb count 0 ≡ z → rowsVerdict p count size ≡ withRoom (roomy p count) count (size / 16)
+    go false e z f = simp (e, e)
+    go true e true f = simp (e, f)
+    go true e false f = simp (e, f)
 
 module _ (p : Profile) (count : ℕ) (bytes old : List ℕ) where
-  rows-right : countFor p count .count ≤ length old / 16 → {r : Counted} {new : List ℕ} → (r ≡ counted (within (verdictOf p) count (length old)) count) × (new ≡ ifSound (within (verdictOf p) count (length old)) (bytes ++ drop (16 * count) old) old)
-      → (r ≡ countFor p count) × (new ≡ bytesFor p count bytes ++ drop (16 * countFor p count .count) old)
-  unfolding countFor bytesFor
-  rows-right room is =
-      let e = enough (verdictOf p) count (length old) room in
-      (is .0 ∙ ap (λ (v : Verdict). counted v count) e, is .1 ∙ ap (λ (v : Verdict). ifSound v (bytes ++ drop (16 * count) old) old) e ∙ left-beside (roomy (verdictOf p) count) count bytes old)
+  rows-in-room : 16 * counted (roomy p count) count .count ≤ length old → {r : Counted} {new : List ℕ} → Puts (rowsVerdict p count (length old)) count bytes (16 * count) old r new
+      → (r ≡ counted (roomy p count) count) × (new ≡ ifSound (roomy p count) bytes [] ++ drop (16 * counted (roomy p count) count .count) old)
+  rows-in-room h = in-room (roomy p count) count (length old / 16) bytes old (λ k. 16 * k) refl (omega arith) (room-last p count (length old))
 
 -- looking up: the place of a row, told by its number
 place-beside : (v : Verdict) (k : ℕ) → ifSound v (16 * k) 0 ≡ 16 * (counted v (k + 1) .count - 1)
@@ -132,30 +155,62 @@ place-beside v k = go (eqb (numberOf v) 0) refl
 
 -- A case with its answer computed.
 unfoldable pub anew : Case → Case
+anew (reading bytes answer) = reading bytes (readingFor bytes)
+anew (writing p answer bytes) = writing p (counted (verdictOf p) (profileLength (p .n))) (ifSound (verdictOf p) (profileBytes p) [])
+anew (writingIn p old answer new) =
+    let v = writeVerdict p (length old) in
+    writingIn p old (counted v (profileLength (p .n))) (after v (profileBytes p) (profileLength (p .n)) old)
 anew (permitting p verdict lists) = permitting p (verdictOf p) (chains (seconds 1) (jobsOf p))
-anew (choosing p b answer) = choosing p b (choiceFor p b)
 anew (scoring p ts answer) = scoring p ts (scoreFor p ts)
-anew (listing p answer bytes) = listing p (countFor p (length (zonesOf p))) (bytesFor p (length (zonesOf p)) (rowsOf (zonesOf p)))
-anew (building p answer bytes) = building p (countFor p (length (tableOf p))) (bytesFor p (length (tableOf p)) (tableBytes (jobsOf p) (tableOf p)))
+anew (choosing p b answer) = choosing p b (choiceFor p b)
+anew (listing p answer bytes) =
+    let v = roomy p (length (zonesOf p)) in
+    listing p (counted v (length (zonesOf p))) (ifSound v (rowsOf (zonesOf p)) [])
+anew (listingIn p old answer new) =
+    let v = rowsVerdict p (length (zonesOf p)) (length old) in
+    listingIn p old (counted v (length (zonesOf p))) (after v (rowsOf (zonesOf p)) (16 * length (zonesOf p)) old)
+anew (building p answer bytes) =
+    let v = roomy p (length (tableOf p)) in
+    building p (counted v (length (tableOf p))) (ifSound v (tableBytes (jobsOf p) (tableOf p)) [])
+anew (buildingIn p old answer new) =
+    let v = rowsVerdict p (length (tableOf p)) (length old) in
+    buildingIn p old (counted v (length (tableOf p))) (after v (tableBytes (jobsOf p) (tableOf p)) (16 * length (tableOf p)) old)
 anew (lookingUp p table b answer bytes) =
     let v = lookupVerdict p table (pagesPerHour b) in
     let k = lastWithin table (pagesPerHour b) (rowsIn table) in
     lookingUp p table b (counted v (k + 1)) (ifSound v (take 16 (drop (16 * k) table)) [])
 
+-- what each writer may answer and leave is what is computed for the buffer given
+write-computed : (p : Profile) (old : List ℕ) {r : Counted} {new : List ℕ} → Writes p old r new → Puts (writeVerdict p (length old)) (profileLength (p .n)) (profileBytes p) (profileLength (p .n)) old r new
+unfolding counted after
+write-computed p old writes = write-profile-one-outcome p old writes (record { verdict = refl; count = refl; bytes = refl })
+
+list-computed : (p : Profile) (old : List ℕ) {r : Counted} {new : List ℕ} → Listed p old r new → Puts (rowsVerdict p (length (zonesOf p)) (length old)) (length (zonesOf p)) (rowsOf (zonesOf p)) (16 * length (zonesOf p)) old r new
+unfolding counted after
+list-computed p old is = list-zones-one-outcome p old is (listed p old (record { verdict = refl; count = refl; bytes = refl }))
+
+build-computed : (p : Profile) (old : List ℕ) {r : Counted} {new : List ℕ} → Built p old r new → Puts (rowsVerdict p (length (tableOf p)) (length old)) (length (tableOf p)) (tableBytes (jobsOf p) (tableOf p)) (16 * length (tableOf p)) old r new
+unfolding counted after
+build-computed p old is = build-table-one-outcome p old is (built p old (record { verdict = refl; count = refl; bytes = refl }))
+
 pub anew-right : (c : Case) → Right (anew c)
-unfolding anew counted rowsVerdict
+unfolding anew counted readingFor writeVerdict
+anew-right (reading bytes answer) = λ r reads. read-profile-one-outcome bytes reads (record { verdict = refl; profile = refl })
+anew-right (writing p answer bytes) = λ old room r new writes.
+    in-room (verdictOf p) (profileLength (p .n)) (length old) (profileBytes p) old (λ k. k) refl room refl (write-computed p old writes)
+anew-right (writingIn p old answer new) = λ r left writes. write-computed p old writes
 anew-right (permitting p verdict lists) = (
   refl,
   λ sound ts.
       (let v = sound-valid p sound .jobs in
       (chains-all multiples-lists (jobsOf p) ts v (le-refl 1), chains-only multiples-lists (jobsOf p) ts v (le-refl 1))),
 )
-anew-right (choosing p b answer) = λ r chosen. choose-one-outcome p (pagesPerHour b) chosen (choice-meets p b)
 anew-right (scoring p ts answer) = λ r scores. score-one-outcome p ts scores (score-meets p ts)
-anew-right (listing p answer bytes) = λ old room r new listed.
-    rows-right p (length (zonesOf p)) (rowsOf (zonesOf p)) old room (list-zones-one-outcome p old listed (record { zones = zonesOf p; are = are-zones p; none = no-zones p; puts = record { verdict = refl; count = refl; bytes = refl } }))
-anew-right (building p answer bytes) = λ old room r new built.
-    rows-right p (length (tableOf p)) (tableBytes (jobsOf p) (tableOf p)) old room (build-table-one-outcome p old built (record { rows = tableOf p; are = are-rows p; none = none-of p; puts = record { verdict = refl; count = refl; bytes = refl } }))
+anew-right (choosing p b answer) = λ r chosen. choose-one-outcome p (pagesPerHour b) chosen (choice-meets p b)
+anew-right (listing p answer bytes) = λ old room r new is. rows-in-room p (length (zonesOf p)) (rowsOf (zonesOf p)) old room (list-computed p old is)
+anew-right (listingIn p old answer new) = λ r left is. list-computed p old is
+anew-right (building p answer bytes) = λ old room r new is. rows-in-room p (length (tableOf p)) (tableBytes (jobsOf p) (tableOf p)) old room (build-computed p old is)
+anew-right (buildingIn p old answer new) = λ r left is. build-computed p old is
 anew-right (lookingUp p table b answer bytes) = (
   λ r located. locate-one-outcome p table (pagesPerHour b) located (record { verdict = refl; count = refl }),
   λ v told. told,

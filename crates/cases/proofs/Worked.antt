@@ -2,9 +2,12 @@
 -- Assumes nothing.
 use mathlib.Core.Path.{_≡_, refl, _∙_, sym, ap, subst}
 use mathlib.Core.List.{List, _∷_, map, flatMap, List·Memᴰ, List·Memᴰ·head, List·Memᴰ·tail}
-use Rattle.model.specs.Model.{entries, load, cost, lastOf, pagesIn, need, rate, jobLoss, loss, verdictOf, refuseIf, orElse, ifSound, firstRefused, judgeIntervalAndStiffness, judgeJob, allows}
+use Rattle.model.specs.Model.{entries, load, cost, lastOf, pagesIn, need, rate, jobLoss, loss, verdictOf, rowsVerdict, refuseIf, orElse, ifSound, firstRefused, judgeIntervalAndStiffness, judgeJob, allows}
 use Rattle.codec.specs.Packing.{bits, pack, unpack, recut}
+use Rattle.codec.specs.Layout.{recordBytes, profileBytes}
 use Rattle.codec.specs.Rows.{tableRow}
+use Rattle.profile_read.specs.Reading.{headerOf, recordsIn, judgeRecord, judgeHeader, verdictOfBytes}
+use Rattle.profile_write.specs.Writing.{writeVerdict}
 use Rattle.score.specs.Scoring.{judgePeriod, firstUnpermitted, scoreVerdict}
 use Rattle.walk.specs.Chains.{climb, risingFrom, multiples, descend, fallingFrom, multiplesDown, chainsBy}
 use Rattle.walk.specs.Walk.{visit, walkBy}
@@ -20,11 +23,11 @@ use Rattle.table_check.specs.Checks.{placeRight, placesRight, rowRight, firstBa
 use Rattle.table_lookup.specs.Lookup.{tableVerdict, lookupVerdict, lastWithin}
 use Rattle.cases.specs.Case.{Case, Right}
 use Rattle.cases.specs.Cases.{cases}
-use Rattle.cases.proofs.Anew.{choiceFor, scoreFor, counted, roomy, countFor, bytesFor, anew, anew-right}
+use Rattle.cases.proofs.Anew.{choiceFor, scoreFor, readingFor, counted, after, roomy, anew, anew-right}
 
 -- Computing every answer of a list anew gives the same list. To unfold this is to unfold all that is computed with.
 unfoldable pub Computed : List Case → Type 0
-unfolding anew chainsBy choiceFor scoreFor counted roomy countFor bytesFor settle walkBy visit pick lessNeed beats multiples risingFrom climb multiplesDown fallingFrom descend load cost rate jobLoss entries verdictOf refuseIf orElse ifSound firstRefused judgeIntervalAndStiffness judgeJob need loss pagesIn lastOf scoreVerdict firstUnpermitted judgePeriod zonesIn zonesBelow unlessEmpty upToLast climbUp flatMap rowsOf recut pack unpack bits tableBytes tableRow descent upTo lookupVerdict tableVerdict firstBad rowRight placesRight placeRight allows follows rowFields lastWithin
+unfolding anew readingFor verdictOfBytes judgeHeader headerOf recordsIn judgeRecord writeVerdict profileBytes recordBytes rowsVerdict chainsBy choiceFor scoreFor counted after roomy settle walkBy visit pick lessNeed beats multiples risingFrom climb multiplesDown fallingFrom descend load cost rate jobLoss entries verdictOf refuseIf orElse ifSound firstRefused judgeIntervalAndStiffness judgeJob need loss pagesIn lastOf scoreVerdict firstUnpermitted judgePeriod zonesIn zonesBelow unlessEmpty upToLast climbUp flatMap rowsOf recut pack unpack bits tableBytes tableRow descent upTo lookupVerdict tableVerdict firstBad rowRight placesRight placeRight allows follows rowFields lastWithin
 Computed cs = map anew cs ≡ cs
 
 same-head : {A : Type 0} {x y : A} {xs ys : List A} → x ∷ xs ≡ y ∷ ys → x ≡ y

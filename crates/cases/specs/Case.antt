@@ -3,7 +3,7 @@
 use mathlib.Core.Path.{_≡_}
 use mathlib.Core.Logic.{_↔_}
 use mathlib.Core.List.{List, [], _∷_, _++_, map, List·Memᴰ}
-use Prim.Native.Nat.{ℕ, _+_, _*_, _-_, _/_, _≤_}
+use Prim.Native.Nat.{ℕ, _+_, _*_, _-_, _≤_}
 use lib.ListN.{length, drop, replicate}
 use Rattle.model.specs.declared.Seconds.{Seconds}
 use Rattle.model.specs.declared.Job.{Job}
@@ -11,7 +11,10 @@ use Rattle.model.specs.declared.Profile.{Profile}
 use Rattle.model.specs.declared.Counted.{Counted}
 use Rattle.model.specs.declared.Verdict.{Verdict}
 use Rattle.model.specs.declared.Verdict.the-variants.{Sound, Budget}
-use Rattle.model.specs.Model.{seconds, pagesPerHour, jobsOf, Permitted, verdictOf, padded}
+use Rattle.model.specs.Model.{seconds, pagesPerHour, noJob, jobsOf, Permitted, verdictOf, padded}
+use Rattle.profile_read.specs.declared.Reading.{Reading}
+use Rattle.profile_read.specs.Reading.{noProfile, Reads}
+use Rattle.profile_write.specs.Writing.{Writes}
 use Rattle.score.specs.declared.Scored.{Scored}
 use Rattle.score.specs.Scoring.{Scores}
 use Rattle.choose.specs.declared.Choice.{Choice}
@@ -20,24 +23,41 @@ use Rattle.zones.specs.Zones.{Listed}
 use Rattle.table.specs.Table.{Built}
 use Rattle.table_lookup.specs.Lookup.{lookupVerdict, LooksUp, Locates}
 
--- What is asked of a profile, then what must come out: the answer, and the bytes of the rows written or of the row handed back.
+-- What is asked, then what must come out: the answer, and the bytes written or handed back. What writes into a lent buffer is asked
+-- with every buffer that has room, or `In` the one given, and then the bytes are the whole buffer's.
 pub data Case : Type 0 where
+  reading : (bytes : List ℕ) → Reading → Case
+  writing : Profile → Counted → (bytes : List ℕ) → Case
+  writingIn : Profile → (old : List ℕ) → Counted → (new : List ℕ) → Case
   permitting : Profile → Verdict → (lists : List (List Seconds)) → Case
-  choosing : Profile → (budget : ℕ) → Choice → Case
   scoring : Profile → (periods : List Seconds) → Scored → Case
+  choosing : Profile → (budget : ℕ) → Choice → Case
   listing : Profile → Counted → (bytes : List ℕ) → Case
+  listingIn : Profile → (old : List ℕ) → Counted → (new : List ℕ) → Case
   building : Profile → Counted → (bytes : List ℕ) → Case
+  buildingIn : Profile → (old : List ℕ) → Counted → (new : List ℕ) → Case
   lookingUp : Profile → (table : List ℕ) (budget : ℕ) → Counted → (bytes : List ℕ) → Case
 
--- The permitted lists are these and no others; whatever the public contract allows is what must come out; zones and table are written into any room that is enough.
+-- Whatever an operation may answer and leave is this answer and these bytes.
+abbrev pub Only : (Counted → List ℕ → Type 0) → Counted → List ℕ → Type 0
+Only allows answer left = (r : Counted) (new : List ℕ) → allows r new → (r ≡ answer) × (new ≡ left)
+
+-- The same of every lent buffer with room for the `size` bytes that are written: these at the front, the rest as it was.
+abbrev pub InAnyRoom : (List ℕ → Counted → List ℕ → Type 0) → (size : ℕ) → Counted → List ℕ → Type 0
+InAnyRoom allows size answer bytes = (old : List ℕ) → size ≤ length old → Only (allows old) answer (bytes ++ drop size old)
+
+-- A case is right when whatever the public contract allows is what must come out; the permitted lists are these and no others.
 abbrev pub Right : Case → Type 0
+Right (reading bytes answer) = (r : Reading) → Reads bytes r → r ≡ answer
+Right (writing p answer bytes) = InAnyRoom (Writes p) (answer .count) answer bytes
+Right (writingIn p old answer new) = Only (Writes p old) answer new
 Right (permitting p verdict lists) = (verdictOf p ≡ verdict) × (verdict ≡ Sound → (ts : List Seconds) → Permitted (jobsOf p) ts ↔ List·Memᴰ ts lists)
-Right (choosing p b answer) = (r : Choice) → Chosen p (pagesPerHour b) r → r ≡ answer
 Right (scoring p ts answer) = (r : Scored) → Scores p ts r → r ≡ answer
-Right (listing p answer bytes) =
-    (old : List ℕ) → answer .count ≤ length old / 16 → (r : Counted) (new : List ℕ) → Listed p old r new → (r ≡ answer) × (new ≡ bytes ++ drop (16 * answer .count) old)
-Right (building p answer bytes) =
-    (old : List ℕ) → answer .count ≤ length old / 16 → (r : Counted) (new : List ℕ) → Built p old r new → (r ≡ answer) × (new ≡ bytes ++ drop (16 * answer .count) old)
+Right (choosing p b answer) = (r : Choice) → Chosen p (pagesPerHour b) r → r ≡ answer
+Right (listing p answer bytes) = InAnyRoom (Listed p) (16 * answer .count) answer bytes
+Right (listingIn p old answer new) = Only (Listed p old) answer new
+Right (building p answer bytes) = InAnyRoom (Built p) (16 * answer .count) answer bytes
+Right (buildingIn p old answer new) = Only (Built p old) answer new
 Right (lookingUp p table b answer bytes) =
     ((r : Counted) → Locates p table (pagesPerHour b) r → r ≡ answer)
     × ((v : Verdict) → v ≡ lookupVerdict p table (pagesPerHour b) → v ≡ answer .verdict)
@@ -54,6 +74,13 @@ interval lo hi = job lo hi 1 0 1
 -- A profile of these jobs; in the places beyond them stand others that would be refused.
 abbrev pub profile : List Job → Profile
 profile js = record { n = length js; jobs = js ++ replicate (8 - length js) (job 9 3 99999 99999 77) }
+
+-- These jobs, read; and none beside a refusal.
+abbrev pub values : List Job → Reading
+values js = record { verdict = Sound; profile = record { n = length js; jobs = padded noJob js } }
+
+abbrev pub noValues : Verdict → Reading
+noValues v = record { verdict = v; profile = noProfile }
 
 -- Periods in eight places, zeros beyond them.
 abbrev pub eight : List ℕ → List Seconds
@@ -76,6 +103,10 @@ number k = record { verdict = Sound; count = k }
 
 abbrev pub noNumber : Verdict → Counted
 noNumber v = record { verdict = v; count = 0 }
+
+-- A lent buffer of so many bytes.
+abbrev pub lent : ℕ → List ℕ
+lent size = replicate size 0xEE
 
 -- Rows of sixteen bytes: those given, then zeros.
 abbrev pub rows : List (List ℕ) → List ℕ

@@ -1,18 +1,25 @@
 -- Document 01's numbers as one list: an entry says what is asked, of which profile, and what must come out.
 -- Assumes nothing.
-use mathlib.Core.List.{List, [], _∷_, map}
+use mathlib.Core.List.{List, [], _∷_, _++_, map}
 use Prim.Native.Nat.{ℕ}
-use lib.ListN.{take}
+use lib.ListN.{take, drop}
 use Rattle.model.specs.declared.Seconds.{Seconds}
+use Rattle.model.specs.declared.Job.{Job}
 use Rattle.model.specs.declared.Profile.{Profile}
-use Rattle.model.specs.declared.Verdict.the-variants.{Sound, NoPeriods, Row}
+use Rattle.model.specs.declared.Verdict.the-variants.{Sound, NoBytes, Edition, JobCount, Length, Interval, Spare, NoPeriods, Room, Row}
 use Rattle.model.specs.Model.{seconds}
 use Rattle.choose.specs.Choice.{refused}
-use Rattle.cases.specs.Case.{Case, permitting, choosing, scoring, listing, building, lookingUp, job, interval, profile, eight, plan, scored, below, number, noNumber, rows}
+use Rattle.cases.specs.Case.{Case, reading, writing, writingIn, permitting, scoring, choosing, listing, listingIn, building, buildingIn, lookingUp, job, interval, profile, values, noValues, eight, plan, scored, below, number, noNumber, lent, rows}
 
--- The profile that document 01 works with.
+-- The profile that document 01 works with, as values and as bytes.
+abbrev pub jobsA : List Job
+jobsA = job 20 25 9 1 1 ∷ job 43 74 18 2 1 ∷ job 45 100 36 4 1 ∷ []
+
 abbrev pub profileA : Profile
-profileA = profile (job 20 25 9 1 1 ∷ job 43 74 18 2 1 ∷ job 45 100 36 4 1 ∷ [])
+profileA = profile jobsA
+
+abbrev pub bytesA : List ℕ
+bytesA = 0x13 ∷ 0x01 ∷ 0x40 ∷ 0x19 ∷ 0x00 ∷ 0x12 ∷ 0x00 ∷ 0x04 ∷ 0x10 ∷ 0x02 ∷ 0xB0 ∷ 0x4A ∷ 0x00 ∷ 0x24 ∷ 0x00 ∷ 0x08 ∷ 0x10 ∷ 0x02 ∷ 0xD0 ∷ 0x64 ∷ 0x00 ∷ 0x48 ∷ 0x00 ∷ 0x10 ∷ 0x10 ∷ []
 
 -- A's table: the rows at 4,320, 4,500, 5,143 and 5,400, and the whole.
 abbrev pub row₁ : List ℕ
@@ -79,8 +86,23 @@ nineLists =
 -- The cases.
 unfoldable pub cases : List Case
 cases =
+    -- A's bytes both ways, in any room and beside other bytes
+    reading bytesA (values jobsA)
+    ∷ writing profileA (number 25) bytesA
+    ∷ writingIn profileA (lent 28) (number 25) (bytesA ++ lent 3)
+    -- bytes that are no profile: none, edition 2, no jobs, a byte short, lo above hi in the second job, a spare bit in the third
+    ∷ reading [] (noValues NoBytes)
+    ∷ reading (0x23 ∷ drop 1 bytesA) (noValues Edition)
+    ∷ reading (0x10 ∷ drop 1 bytesA) (noValues JobCount)
+    ∷ reading (take 24 bytesA) (noValues Length)
+    ∷ reading (take 9 bytesA ++ (0xFF ∷ drop 10 bytesA)) (noValues (Interval 2))
+    ∷ reading (take 24 bytesA ++ (0x11 ∷ [])) (noValues (Spare 3))
+    -- room too small, for A's bytes, zones and table: nothing is written
+    ∷ writingIn profileA (lent 24) (noNumber (Room 25)) (lent 24)
+    ∷ listingIn profileA (lent 47) (noNumber (Room 3)) (lent 47)
+    ∷ buildingIn profileA (lent 128) (noNumber (Room 9)) (lent 128)
     -- P1
-    choosing profileA 4319 (refused (below 4320))
+    ∷ choosing profileA 4319 (refused (below 4320))
     ∷ lookingUp profileA tableA 4319 (noNumber (below 4320)) []
     -- P2
     ∷ choosing profileA 4320 (plan 4320 3281956 (25 ∷ 50 ∷ 100 ∷ []))
