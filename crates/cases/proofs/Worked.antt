@@ -1,7 +1,7 @@
 -- Document 01's numbers are right: computing every answer anew gives the same list of cases, and what is computed is right.
 -- Assumes nothing.
 use mathlib.Core.Path.{_≡_, refl, _∙_, sym, ap, subst}
-use mathlib.Core.List.{List, _∷_, map, flatMap, List·Memᴰ, List·Memᴰ·head, List·Memᴰ·tail}
+use mathlib.Core.List.{List, [], _∷_, map, flatMap, List·Memᴰ, List·Memᴰ·head, List·Memᴰ·tail}
 use Rattle.model.specs.Model.{entries, load, cost, lastOf, pagesIn, need, rate, jobLoss, loss, verdictOf, rowsVerdict, refuseIf, orElse, ifSound, firstRefused, judgeIntervalAndStiffness, judgeJob, allows}
 use Rattle.codec.specs.Packing.{bits, pack, unpack, recut}
 use Rattle.codec.specs.Layout.{recordBytes, profileBytes}
@@ -45,6 +45,10 @@ same-at f (y ∷ xs) e (List·Memᴰ·tail m) = same-at f xs (same-tail e) m
 pub all-right : (cs : List Case) → Computed cs → (c : Case) → List·Memᴰ c cs → Right c
 unfolding Computed
 all-right cs computed c m = subst Right (same-at anew cs computed m) (anew-right c)
+
+-- and so is one case by itself
+pub right : (c : Case) → Computed (c ∷ []) → Right c
+right c computed = all-right (c ∷ []) computed c (List·Memᴰ·head refl)
 
 computed : Computed cases
 unfolding cases Computed

@@ -21,6 +21,10 @@ profileA = profile jobsA
 abbrev pub bytesA : List ℕ
 bytesA = 0x13 ∷ 0x01 ∷ 0x40 ∷ 0x19 ∷ 0x00 ∷ 0x12 ∷ 0x00 ∷ 0x04 ∷ 0x10 ∷ 0x02 ∷ 0xB0 ∷ 0x4A ∷ 0x00 ∷ 0x24 ∷ 0x00 ∷ 0x08 ∷ 0x10 ∷ 0x02 ∷ 0xD0 ∷ 0x64 ∷ 0x00 ∷ 0x48 ∷ 0x00 ∷ 0x10 ∷ 0x10 ∷ []
 
+-- One job at 7 seconds (P8).
+abbrev pub atSeven : Profile
+atSeven = profile (interval 7 7 ∷ [])
+
 -- A's table: the rows at 4,320, 4,500, 5,143 and 5,400, and the whole.
 abbrev pub row₁ : List ℕ
 row₁ = 0x00 ∷ 0x00 ∷ 0x10 ∷ 0xE0 ∷ 0x01 ∷ 0x90 ∷ 0x32 ∷ 0x06 ∷ 0x40 ∷ []
@@ -126,8 +130,8 @@ cases =
     ∷ listing (profile (interval 1 1 ∷ interval 2 4 ∷ interval 35 35 ∷ [])) (noNumber NoPeriods) []
     ∷ building (profile (interval 1 1 ∷ interval 2 4 ∷ interval 35 35 ∷ [])) (noNumber NoPeriods) []
     -- P8
-    ∷ choosing (profile (interval 7 7 ∷ [])) 514 (refused (below 515))
-    ∷ choosing (profile (interval 7 7 ∷ [])) 515 (plan 515 0 (7 ∷ []))
+    ∷ choosing atSeven 514 (refused (below 515))
+    ∷ choosing atSeven 515 (plan 515 0 (7 ∷ []))
     -- P9
     ∷ scoring (profile (interval 7 7 ∷ interval 7 7 ∷ [])) (eight (7 ∷ 7 ∷ [])) (scored 1029 0)
     ∷ choosing (profile (interval 7 7 ∷ interval 7 7 ∷ [])) 1028 (refused (below 1029))
