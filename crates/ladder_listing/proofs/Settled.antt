@@ -2,7 +2,7 @@
 -- Assumes nothing.
 use mathlib.Core.Path.{_≡_, refl, sym, _∙_, ap, subst}
 use mathlib.Core.Logic.{_↔_, ⊎-elim}
-use mathlib.Core.Bool.{Bool, true, false, not}
+use mathlib.Core.Bool.{Bool, true, false, not, _||_}
 use mathlib.Core.List.{List}
 use Prim.Native.Nat.{ℕ, _≤_}
 use native.Mathlib.Omega.{arith}
@@ -24,17 +24,18 @@ use Rattle.ladder_listing.proofs.Verdicts.{sound-or-refused, refused-fi
 
 -- 2, 3 and 4 by the two fields of the first byte alone
 byHeader : List ℕ → Verdict
-byHeader fields = refuseIf (not (eqb (getD fields 0 0) 1)) Edition (refuseIf (eqb (getD fields 1 0) 0) JobCount (refuseIf (ltb 8 (getD fields 1 0)) JobCount Length))
+byHeader fields = refuseIf (not (eqb (getD fields 0 0) 1)) Edition (refuseIf (eqb (getD fields 1 0) 0 || ltb 8 (getD fields 1 0)) JobCount Length)
 
 -- of bytes that are longer than any profile
 module _ (bytes : List ℕ) (long : 66 ≤ length bytes) where
   by-header : judgeHeader bytes ≡ byHeader (headerOf bytes)
   unfolding judgeHeader byHeader refuseIf
-  by-header = go (ltb 8 (countOf bytes)) refl
+  by-header = go (eqb (countOf bytes) 0) refl (ltb 8 (countOf bytes)) refl
     where
-      go : (t : Bool) → ltb 8 (countOf bytes) ≡ t → judgeHeader bytes ≡ byHeader (headerOf bytes)
-      go true e = simp (ne-eqb (length bytes) 0 (λ f. omega arith), e)
-      go false e = simp (ne-eqb (length bytes) 0 (λ f. omega arith), e, ne-eqb (length bytes) (profileLength (countOf bytes)) (λ f. omega (arith, ltb-false 8 (countOf bytes) e)))
+      go : (z : Bool) → eqb (countOf bytes) 0 ≡ z → (t : Bool) → ltb 8 (countOf bytes) ≡ t → judgeHeader bytes ≡ byHeader (headerOf bytes)
+      go true z t e = simp (ne-eqb (length bytes) 0 (λ f. omega arith), z)
+      go false z true e = simp (ne-eqb (length bytes) 0 (λ f. omega arith), z, e)
+      go false z false e = simp (ne-eqb (length bytes) 0 (λ f. omega arith), z, e, ne-eqb (length bytes) (profileLength (countOf bytes)) (λ f. omega (arith, ltb-false 8 (countOf bytes) e)))
 
   header-refused : Refuses (judgeHeader bytes)
   header-refused = ⊎-elim (λ e. absurd (omega (arith, sound-header bytes e))) (λ h. h) (sound-or-refused (judgeHeader bytes))

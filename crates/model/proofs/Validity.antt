@@ -5,6 +5,7 @@ use mathlib.Core.List.{List, [], _∷_}
 use Prim.Native.Nat.{ℕ, zero, suc, _+_, _≤_, _<_}
 use native.Mathlib.Nat.{zero-add, add-zero, not-suc-le-zero, le-of-suc-le-suc}
 use lib.ListN.{getD}
+use lib.Dec.{eqb, ltb}
 use native.Mathlib.Omega.{arith}
 use borrow.Author.Tests.{eqb-false, ltb-false, le-ltb, ne-eqb}
 use Rattle.model.specs.declared.Job.{Job}
@@ -12,7 +13,7 @@ use Rattle.model.specs.declared.Profile.{Profile}
 use Rattle.model.specs.declared.Verdict.the-variants.{Sound}
 use Rattle.model.specs.Model.{noJob, entries, jobsOf, refuseIf, firstRefused, judgeIntervalAndStiffness, judgeJob, verdictOf}
 use Rattle.model.specs.Valid.{ValidJob, ValidJobs, Valid}
-use Rattle.model.proofs.Verdicts.{test-passed, both-sound, sound-passes}
+use Rattle.model.proofs.Verdicts.{test-passed, neither, both-sound, sound-passes}
 
 -- what 5 and 6 leave
 pub record InRange (j : Job) : Type 0 where
@@ -26,15 +27,14 @@ pub in-range : (j : Job) (k : ℕ) → judgeIntervalAndStiffness j k ≡ Sound �
 unfolding judgeIntervalAndStiffness
 in-range j k e =
     let a = test-passed _ _ _ tt e in
-    let b = test-passed _ _ _ tt (a .1) in
-    let d = test-passed _ _ _ tt (b .1) in
-    let f = test-passed _ _ _ tt (d .1) in
-    let g = test-passed _ _ _ tt (f .1) in
-    let lo-pos : (j .lo .0 ≡ 0 → ⊥) = eqb-false _ _ (a .0) in
-    let lo≤hi : j .lo .0 ≤ j .hi .0 = ltb-false _ _ (b .0) in
-    let hi≤ : j .hi .0 ≤ 3600 = ltb-false _ _ (d .0) in
+    let f = neither (eqb (j .stiffness) 0) (test-passed _ _ _ tt (a .1) .0) in
+    let b = neither (eqb (j .lo .0) 0) (a .0) in
+    let d = neither (ltb (j .hi .0) (j .lo .0)) (b .1) in
+    let lo-pos : (j .lo .0 ≡ 0 → ⊥) = eqb-false _ _ (b .0) in
+    let lo≤hi : j .lo .0 ≤ j .hi .0 = ltb-false _ _ (d .0) in
+    let hi≤ : j .hi .0 ≤ 3600 = ltb-false _ _ (d .1) in
     let w-pos : (j .stiffness ≡ 0 → ⊥) = eqb-false _ _ (f .0) in
-    let w≤ : j .stiffness ≤ 32 = ltb-false _ _ (g .0) in
+    let w≤ : j .stiffness ≤ 32 = ltb-false _ _ (f .1) in
     omega arith
 
 pub in-range-sound : (j : Job) (k : ℕ) → InRange j → judgeIntervalAndStiffness j k ≡ Sound
@@ -47,10 +47,9 @@ unfolding judgeJob
 job-valid j k e =
     let a = both-sound (judgeIntervalAndStiffness j k) e in
     let r = in-range j k (a .0) in
-    let d = test-passed _ _ _ tt (a .1) in
-    let g = test-passed _ _ _ tt (d .1) in
+    let d = neither (ltb 32767 (j .«data»)) (test-passed _ _ _ tt (a .1) .0) in
     let d≤ : j .«data» ≤ 32767 = ltb-false _ _ (d .0) in
-    let g≤ : j .metadata ≤ 32767 = ltb-false _ _ (g .0) in
+    let g≤ : j .metadata ≤ 32767 = ltb-false _ _ (d .1) in
     omega arith
 
 job-sound : (j : Job) (k : ℕ) → ValidJob j → judgeJob j k ≡ Sound
@@ -74,10 +73,10 @@ pub sound-valid : (p : Profile) → verdictOf p ≡ Sound → Valid p
 unfolding verdictOf
 sound-valid p e =
     let a = test-passed _ _ _ tt e in
-    let b = test-passed _ _ _ tt (a .1) in
-    let n-pos : (p .n ≡ 0 → ⊥) = eqb-false _ _ (a .0) in
-    let n≤ : p .n ≤ 8 = ltb-false _ _ (b .0) in
-    record { n-from = omega arith; n-to = n≤; jobs = jobs-valid (jobsOf p) 0 (b .1) }
+    let b = neither (eqb (p .n) 0) (a .0) in
+    let n-pos : (p .n ≡ 0 → ⊥) = eqb-false _ _ (b .0) in
+    let n≤ : p .n ≤ 8 = ltb-false _ _ (b .1) in
+    record { n-from = omega arith; n-to = n≤; jobs = jobs-valid (jobsOf p) 0 (a .1) }
 
 pub valid-sound : (p : Profile) → Valid p → verdictOf p ≡ Sound
 unfolding verdictOf refuseIf

@@ -2,7 +2,7 @@
 -- Assumes nothing.
 use mathlib.Core.Path.{_≡_, refl, sym, ap, subst}
 use mathlib.Core.List.{List, [], _∷_}
-use mathlib.Core.Bool.{Bool, true, false}
+use mathlib.Core.Bool.{Bool, true, false, cond, _||_}
 use lib.Dec.{T, eqb, ltb}
 use borrow.Author.Tests.{eqb-true, eqb-false, ne-eqb}
 use Prim.Native.Nat.{ℕ, _+_, _-_, _≤_, _<_}
@@ -93,6 +93,11 @@ pub test-passed : (t : Bool) (refusal rest : Verdict) → T (ltb 0 (numberOf ref
 unfolding refuseIf
 test-passed true refusal rest h e = absurd (subst (λ (v : Verdict). T (ltb 0 (numberOf v))) e h)
 test-passed false refusal rest h e = (refl, e)
+
+-- nor did either of two
+pub neither : (a : Bool) {b : Bool} → (a || b) ≡ false → (a ≡ false) × (b ≡ false)
+neither true e = absurd (eqb-false 0 1 refl (sym (ap (λ (t : Bool). cond t 1 0) e)))
+neither false e = (refl, e)
 
 -- two verdicts in a row that are sound are both sound
 pub both-sound : (v : Verdict) {rest : Verdict} → orElse v rest ≡ Sound → (v ≡ Sound) × (rest ≡ Sound)

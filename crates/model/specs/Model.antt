@@ -3,7 +3,7 @@
 -- cites publicly. Need, loss and permitted periods are meant for the jobs of a valid profile. Assumes nothing.
 use mathlib.Core.Path.{_≡_}
 use mathlib.Core.List.{List, [], _∷_, _++_}
-use mathlib.Core.Bool.{Bool, true, false, not, cond, _&&_}
+use mathlib.Core.Bool.{Bool, true, false, not, cond, _&&_, _||_}
 use Prim.Native.Nat.{ℕ, zero, suc, _+_, _*_, _-_, _/_, _%_, _^_, _≤_}
 use lib.ListN.{length, getD, drop, replicate}
 use lib.Dec.{eqb, ltb}
@@ -37,7 +37,7 @@ entries d xs i (suc k) = getD xs i d ∷ entries d xs (i + 1) k
 abbrev pub padded : {A : Type 0} → A → List A → List A
 padded d xs = xs ++ replicate (8 - length xs) d
 
--- The jobs of a profile: the first n of its eight places (Packing).
+-- The jobs of a profile: the first n of its eight places (Packing). An n above 8 is refused; places beyond the eight read as `noJob`.
 abbrev pub jobsOf : Profile → List Job
 jobsOf p = entries noJob (p .jobs) 0 (p .n)
 
@@ -85,7 +85,7 @@ pagesIn span [] ts = 0
 pagesIn span (j ∷ js) [] = 0
 pagesIn span (j ∷ js) (t ∷ ts) = load j * (span .0 / t .0) + pagesIn span js ts
 
--- A fraction rounded up to a whole number.
+-- A fraction rounded up to a whole number, where b is not 0. No period of a valid profile is.
 abbrev pub roundUp : ℕ → ℕ → ℕ
 roundUp a b = (a + (b - 1)) / b
 
@@ -111,7 +111,8 @@ loss [] ts = 0
 loss (j ∷ js) [] = 0
 loss (j ∷ js) (t ∷ ts) = jobLoss j t + loss js ts
 
--- One list of periods is another, or is smaller at the first period in which they differ (Quantities: best).
+-- One list of periods is another, or is smaller at the first period in which they differ (Quantities: best). A list that ends
+-- before they differ counts as not after the other; permitted lists of one profile are of one length.
 abbrev pub NotAfter : List Seconds → List Seconds → Type 0
 NotAfter [] us = Unit {0}
 NotAfter (t ∷ ts) [] = ⊥
@@ -175,22 +176,16 @@ firstRefused judgeOne k (x ∷ xs) = orElse (judgeOne x (k + 1)) (firstRefused j
 -- 5, then 6, for the job numbered k: what bytes and values share (Refusal numbers).
 unfoldable pub judgeIntervalAndStiffness : Job → ℕ → Verdict
 judgeIntervalAndStiffness j k =
-    refuseIf (eqb (j .lo .0) 0) (Interval k)
-    (refuseIf (ltb (j .hi .0) (j .lo .0)) (Interval k)
-    (refuseIf (ltb 3600 (j .hi .0)) (Interval k)
-    (refuseIf (eqb (j .stiffness) 0) (Stiffness k) (refuseIf (ltb 32 (j .stiffness)) (Stiffness k) Sound))))
+    refuseIf (eqb (j .lo .0) 0 || (ltb (j .hi .0) (j .lo .0) || ltb 3600 (j .hi .0))) (Interval k)
+    (refuseIf (eqb (j .stiffness) 0 || ltb 32 (j .stiffness)) (Stiffness k) Sound)
 
 -- 5, 6, then 8, for the job numbered k, given as values (Refusal numbers).
 unfoldable pub judgeJob : Job → ℕ → Verdict
-judgeJob j k =
-    orElse (judgeIntervalAndStiffness j k)
-    (refuseIf (ltb 32767 (j .«data»)) (Pages k) (refuseIf (ltb 32767 (j .metadata)) (Pages k) Sound))
+judgeJob j k = orElse (judgeIntervalAndStiffness j k) (refuseIf (ltb 32767 (j .«data») || ltb 32767 (j .metadata)) (Pages k) Sound)
 
 -- The verdict on a profile given as values: 3, then the first bad job (Refusal numbers, order).
 unfoldable pub verdictOf : Profile → Verdict
-verdictOf p =
-    refuseIf (eqb (p .n) 0) JobCount
-    (refuseIf (ltb 8 (p .n)) JobCount (firstRefused judgeJob 0 (jobsOf p)))
+verdictOf p = refuseIf (eqb (p .n) 0 || ltb 8 (p .n)) JobCount (firstRefused judgeJob 0 (jobsOf p))
 
 -- The verdict on putting `count` rows of sixteen bytes into `size` lent bytes: the profile's own, then 9 where there are none,
 -- then 11 (Refusal numbers, order).

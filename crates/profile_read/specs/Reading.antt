@@ -2,7 +2,7 @@
 -- of codec, cut back into its fields. Cited by public contracts. Assumes nothing.
 use mathlib.Core.Path.{_≡_}
 use mathlib.Core.List.{List, [], _∷_, map}
-use mathlib.Core.Bool.{not}
+use mathlib.Core.Bool.{not, _||_}
 use Prim.Native.Nat.{ℕ, zero, suc}
 use lib.ListN.{length, getD, take, drop}
 use lib.Dec.{eqb, ltb}
@@ -48,9 +48,8 @@ unfoldable pub judgeHeader : List ℕ → Verdict
 judgeHeader bytes =
     refuseIf (eqb (length bytes) 0) NoBytes
     (refuseIf (not (eqb (editionOf bytes) 1)) Edition
-    (refuseIf (eqb (countOf bytes) 0) JobCount
-    (refuseIf (ltb 8 (countOf bytes)) JobCount
-    (refuseIf (not (eqb (length bytes) (profileLength (countOf bytes)))) Length Sound))))
+    (refuseIf (eqb (countOf bytes) 0 || ltb 8 (countOf bytes)) JobCount
+    (refuseIf (not (eqb (length bytes) (profileLength (countOf bytes)))) Length Sound)))
 
 -- The verdict on a profile given as bytes: the whole, then the first bad record.
 unfoldable pub verdictOfBytes : List ℕ → Verdict
