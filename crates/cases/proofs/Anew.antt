@@ -45,8 +45,8 @@ use Rattle.zones.proofs.OneOutcome.{list-zones-one-outcome}
 use Rattle.table.specs.Table.{tableBytes, Built}
 use Rattle.table.proofs.Outcome.{rowsOf as tableOf, built}
 use Rattle.table.proofs.OneOutcome.{build-table-one-outcome}
-use Rattle.table_row.specs.Table.{rowsIn}
-use Rattle.table_lookup.specs.Lookup.{lookupVerdict, lastWithin}
+use Rattle.table_lookup.specs.Lookup.{Locates}
+use Rattle.table_lookup.proofs.Computed.{locateFor, locate-meets}
 use Rattle.table_lookup.proofs.OneOutcome.{locate-one-outcome}
 use Rattle.cases.specs.Case.{Case, reading, writing, writingIn, permitting, scoring, choosing, listing, listingIn, building, buildingIn, lookingUp, Right}
 
@@ -142,17 +142,6 @@ module _ (p : Profile) (count : ℕ) (bytes old : List ℕ) where
       → (r ≡ counted (roomy p count) count) × (new ≡ ifSound (roomy p count) bytes [] ++ drop (16 * counted (roomy p count) count .count) old)
   rows-in-room h = in-room (roomy p count) count (length old / 16) bytes old (λ k. 16 * k) refl (omega arith) (room-last p count (length old))
 
--- looking up: the place of a row, told by its number
-place-beside : (v : Verdict) (k : ℕ) → ifSound v (16 * k) 0 ≡ 16 * (counted v (k + 1) .count - 1)
-unfolding counted ifSound
-place-beside v k = go (eqb (numberOf v) 0) refl
-  where
-    go : (t : Bool) → eqb (numberOf v) 0 ≡ t → ifSound v (16 * k) 0 ≡ 16 * (counted v (k + 1) .count - 1)
-    go true e =
-        let back : k + 1 - 1 ≡ k = omega arith in
-        simp e (ap (λ (m : ℕ). 16 * m) (sym back))
-    go false e = simp e
-
 -- A case with its answer computed.
 unfoldable pub anew : Case → Case
 anew (reading bytes answer) = reading bytes (readingFor bytes)
@@ -176,9 +165,8 @@ anew (buildingIn p old answer new) =
     let v = rowsVerdict p (length (tableOf p)) (length old) in
     buildingIn p old (counted v (length (tableOf p))) (after v (tableBytes (jobsOf p) (tableOf p)) (16 * length (tableOf p)) old)
 anew (lookingUp p table b answer bytes) =
-    let v = lookupVerdict p table (pagesPerHour b) in
-    let k = lastWithin table (pagesPerHour b) (rowsIn table) in
-    lookingUp p table b (counted v (k + 1)) (ifSound v (take 16 (drop (16 * k) table)) [])
+    let r = locateFor p table (pagesPerHour b) in
+    lookingUp p table b r (ifSound (r .verdict) (take 16 (drop (16 * (r .count - 1)) table)) [])
 
 -- what each writer may answer and leave is what is computed for the buffer given
 write-computed : (p : Profile) (old : List ℕ) {r : Counted} {new : List ℕ} → Writes p old r new → Puts (writeVerdict p (length old)) (profileLength (p .n)) (profileBytes p) (profileLength (p .n)) old r new
@@ -212,7 +200,13 @@ anew-right (listingIn p old answer new) = λ r left is. list-computed p old is
 anew-right (building p answer bytes) = λ old room r new is. rows-in-room p (length (tableOf p)) (tableBytes (jobsOf p) (tableOf p)) old room (build-computed p old is)
 anew-right (buildingIn p old answer new) = λ r left is. build-computed p old is
 anew-right (lookingUp p table b answer bytes) = (
-  λ r located. locate-one-outcome p table (pagesPerHour b) located (record { verdict = refl; count = refl }),
-  λ v told. told,
-  λ lies at part looked. (looked .holds, looked .place ∙ ap (λ (k : ℕ). (lies .0, lies .1 + k)) (place-beside (lookupVerdict p table (pagesPerHour b)) (lastWithin table (pagesPerHour b) (rowsIn table)))),
+  λ r located. is located,
+  λ v told. told .verdict ∙ ap (λ (r : Counted). r .verdict) (is (told .located)),
+  λ lies at part looked. (
+    looked .holds ∙ ap (λ (r : Counted). ifSound (r .verdict) (take 16 (drop (16 * (r .count - 1)) table)) []) (is (looked .located)),
+    looked .place ∙ ap (λ (r : Counted). (lies .0, lies .1 + 16 * (r .count - 1))) (is (looked .located)),
+  ),
 )
+  where
+    is : {r : Counted} → Locates p table (pagesPerHour b) r → r ≡ locateFor p table (pagesPerHour b)
+    is located = locate-one-outcome p table (pagesPerHour b) located (locate-meets p table (pagesPerHour b))

@@ -18,16 +18,17 @@ use Rattle.zone_walk.specs.Listing.{climb as climbUp, upTo as upToLast, unlessE
 use Rattle.zones.specs.Zones.{rowsOf}
 use Rattle.table.specs.Table.{tableBytes}
 use Rattle.table.specs.Descent.{upTo, descent}
-use Rattle.table_row.specs.Table.{rowFields, follows}
-use Rattle.table_check.specs.Checks.{placeRight, placesRight, rowRight, firstBad}
-use Rattle.table_lookup.specs.Lookup.{tableVerdict, lookupVerdict, lastWithin}
+use Rattle.table_row.specs.Table.{rowFields}
+use Rattle.table_check.proofs.Tests.{permits, zerosFrom, afterGood, rowGood, firstBad}
+use Rattle.table_lookup.proofs.Finding.{lastWithin}
+use Rattle.table_lookup.proofs.Computed.{wholeRows, findFor, locateFor}
 use Rattle.cases.specs.Case.{Case, Right}
 use Rattle.cases.specs.Cases.{cases}
 use Rattle.cases.proofs.Anew.{choiceFor, scoreFor, readingFor, counted, after, roomy, anew, anew-right}
 
 -- Computing every answer of a list anew gives the same list. To unfold this is to unfold all that is computed with.
 unfoldable pub Computed : List Case → Type 0
-unfolding anew readingFor verdictOfBytes judgeHeader headerOf recordsIn judgeRecord writeVerdict profileBytes recordBytes rowsVerdict chainsBy choiceFor scoreFor counted after roomy settle walkBy visit pick lessNeed beats multiples risingFrom climb multiplesDown fallingFrom descend load cost rate jobLoss entries verdictOf refuseIf orElse ifSound firstRefused judgeIntervalAndStiffness judgeJob need loss pagesIn lastOf scoreVerdict firstUnpermitted judgePeriod zonesIn zonesBelow unlessEmpty upToLast climbUp flatMap rowsOf recut pack unpack bits tableBytes tableRow descent upTo lookupVerdict tableVerdict firstBad rowRight placesRight placeRight allows follows rowFields lastWithin
+unfolding anew readingFor verdictOfBytes judgeHeader headerOf recordsIn judgeRecord writeVerdict profileBytes recordBytes rowsVerdict chainsBy choiceFor scoreFor counted after roomy settle walkBy visit pick lessNeed beats multiples risingFrom climb multiplesDown fallingFrom descend load cost rate jobLoss entries verdictOf refuseIf orElse ifSound firstRefused judgeIntervalAndStiffness judgeJob need loss pagesIn lastOf scoreVerdict firstUnpermitted judgePeriod zonesIn zonesBelow unlessEmpty upToLast climbUp flatMap rowsOf recut pack unpack bits tableBytes tableRow descent upTo locateFor findFor wholeRows firstBad rowGood permits zerosFrom afterGood allows rowFields lastWithin
 Computed cs = map anew cs ≡ cs
 
 same-head : {A : Type 0} {x y : A} {xs ys : List A} → x ∷ xs ≡ y ∷ ys → x ≡ y

@@ -21,7 +21,7 @@ use Rattle.choose.specs.declared.Choice.{Choice}
 use Rattle.choose.specs.Choice.{Chosen}
 use Rattle.zones.specs.Zones.{Listed}
 use Rattle.table.specs.Table.{Built}
-use Rattle.table_lookup.specs.Lookup.{lookupVerdict, LooksUp, Locates}
+use Rattle.table_lookup.specs.Lookup.{Locates, JudgesLookup, LooksUp}
 
 -- What is asked, then what must come out: the answer, and the bytes written or handed back. What writes into a lent buffer is asked
 -- with every buffer that has room, or `In` the one given, and then the bytes are the whole buffer's.
@@ -60,7 +60,7 @@ Right (building p answer bytes) = InAnyRoom (Built p) (16 * answer .count) answe
 Right (buildingIn p old answer new) = Only (Built p old) answer new
 Right (lookingUp p table b answer bytes) =
     ((r : Counted) → Locates p table (pagesPerHour b) r → r ≡ answer)
-    × ((v : Verdict) → v ≡ lookupVerdict p table (pagesPerHour b) → v ≡ answer .verdict)
+    × ((v : Verdict) → JudgesLookup p table (pagesPerHour b) v → v ≡ answer .verdict)
     × ((lies at : ℕ × ℕ) (part : List ℕ) → LooksUp p table lies (pagesPerHour b) part at → (part ≡ bytes) × (at ≡ (lies .0, lies .1 + 16 * (answer .count - 1))))
 
 -- A job: lo, hi, d, g, w.

@@ -3,6 +3,7 @@ pub mod Bounds
 pub mod Entries
 pub mod Numbers
 pub mod OneOutcome
+pub mod ProfileFirst
 pub mod Rounding
 pub mod RowsPut
 pub mod Validity

@@ -187,6 +187,11 @@ judgeJob j k = orElse (judgeIntervalAndStiffness j k) (refuseIf (ltb 32767 (j .�
 unfoldable pub verdictOf : Profile → Verdict
 verdictOf p = refuseIf (eqb (p .n) 0 || ltb 8 (p .n)) JobCount (firstRefused judgeJob 0 (jobsOf p))
 
+-- An answer: the profile's own refusal with nothing beside it, and only then the rest (Refusal numbers, order).
+pub record ProfileFirst {A : Type 0} (p : Profile) (refused : Verdict → A) (Rest : A → Type 0) (r : A) : Type 0 where
+  pub own : (verdictOf p ≡ Sound → ⊥) → r ≡ refused (verdictOf p)
+  pub sound : verdictOf p ≡ Sound → Rest r
+
 -- The verdict on putting `count` rows of sixteen bytes into `size` lent bytes: the profile's own, then 9 where there are none,
 -- then 11 (Refusal numbers, order).
 unfoldable pub rowsVerdict : Profile → ℕ → ℕ → Verdict

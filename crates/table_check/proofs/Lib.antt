@@ -1,3 +1,2 @@
-pub mod Judging
-pub mod Places
+pub mod Tests
 pub mod Turns

@@ -1,1 +1,2 @@
+pub mod Formed
 pub mod Checks

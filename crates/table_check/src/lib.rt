@@ -1,21 +1,19 @@
 // A lent table, checked row by row: the first of its rows that is not good.
 //
-// specs/Checks.antt says what the checks ask; a table's rows and the tests of one stand in crate table_row. The function serves
-// other crates of the planner, and its callers meet what it requires. Nothing is assumed.
+// specs/Formed.antt says when a row is good, specs/Checks.antt what is answered; a table's rows stand in crate table_row. The
+// function serves other crates of the planner, and its callers meet what it requires. Nothing is assumed.
 use model::PagesPerHour;
 use model::Profile;
 use model::Seconds;
-ghost use mathlib.Core.Path.{_≡_};
 ghost use Rattle.model.specs.Valid.{Valid};
-ghost use Rattle.table_row.specs.Table.{rowsIn};
-ghost use Rattle.table_check.specs.Checks.{firstBad};
+ghost use Rattle.table_check.specs.Checks.{Checked};
 
 // The first bad row, from 1, or 0 where every row is good: the label leaves both loops at the first broken rule.
-// `before` is the last of a row's first i periods; in that time they have `written` so many pages, and they have `lost` so
+// `before` is the last of the periods so far; in that time their jobs have `written` so many pages, and they have `lost` so
 // much. Carried along so, need and loss take two divisions for each job and one for the row.
 pub fn first_bad_row(p: Profile, table: &[u8]) -> usize
     requires { ⌜ Valid p ⌝ }
-    ensures { λ r. ⌜ r ≡ firstBad p (now (table .entry)) 0 (rowsIn (now (table .entry))) ⌝ }
+    ensures { λ r. ⌜ Checked p (now (table .entry)) r ⌝ }
 {
     let n = p.n as usize;
     let rates = walk::rates_of(p);
@@ -34,9 +32,16 @@ pub fn first_bad_row(p: Profile, table: &[u8]) -> usize
         let mut written: u64 = 0;
         let mut lost: u64 = 0;
         let mut i: usize = 0;
-        while i < n {
-            let j = p.jobs[i];
+        while i < 8 {
             let t = periods[i];
+            if n <= i {
+                if t.0 != 0 {
+                    break 'rows k + 1;
+                }
+                i += 1;
+                continue;
+            }
+            let j = p.jobs[i];
             if !model::allowed(j, before, t) {
                 break 'rows k + 1;
             }
@@ -45,9 +50,6 @@ pub fn first_bad_row(p: Profile, table: &[u8]) -> usize
             lost += table_row::job_loss(j, PagesPerHour(fastest), t);
             before = t;
             i += 1;
-        }
-        if !table_row::zeros_from(periods, i) {
-            break 'rows k + 1;
         }
         if walk::need_of(written, before).0 != start.0 {
             break 'rows k + 1;

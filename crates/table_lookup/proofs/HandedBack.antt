@@ -2,7 +2,7 @@
 -- Assumes nothing.
 use mathlib.Core.Path.{_≡_, sym, _∙_, ap₂, subst}
 use mathlib.Core.List.{List}
-use Prim.Native.Nat.{ℕ, _*_, _^_, _<_}
+use Prim.Native.Nat.{ℕ, _*_, _-_, _^_, _<_}
 use lib.ListN.{take}
 use Rattle.model.specs.declared.PagesPerHour.{PagesPerHour}
 use Rattle.model.specs.declared.Profile.{Profile}
@@ -15,20 +15,20 @@ use Rattle.codec.proofs.Bytes.{Bytes}
 use Rattle.choose.specs.declared.Choice.{Choice}
 use Rattle.choose.specs.Choice.{Chosen}
 use Rattle.table.specs.Table.{Built}
-use Rattle.table_row.specs.Table.{rowsIn}
-use Rattle.table_lookup.specs.Lookup.{lastWithin, LooksUp}
-use Rattle.table_lookup.proofs.Finding.{found-answers}
+use Rattle.table_lookup.specs.Lookup.{LooksUp}
+use Rattle.table_lookup.specs.AsChosen.{LooksUpAs}
+use Rattle.table_lookup.proofs.OneOutcome.{sound-answers}
 use Rattle.table_lookup.proofs.Laid.{few-jobs, table-is-bytes}
 use Rattle.table_lookup.proofs.InOrder.{table-permitted}
 use Rattle.table_lookup.proofs.RowsRead.{row-kept}
-use Rattle.table_lookup.proofs.LookedUp.{LooksUpAs, HoldsTable, built-holds, built-looked-up}
+use Rattle.table_lookup.proofs.LookedUp.{HoldsTable, built-holds, built-looked-up}
 
-part-is-row : (p : Profile) {bytes : List ℕ} {lies : ℕ × ℕ} {b : PagesPerHour} {c : Choice} {part : List ℕ} {at : ℕ × ℕ} → Bytes bytes → LooksUpAs p bytes b c → c .verdict ≡ Sound → LooksUp p bytes lies b part at → part ≡ tableRow (c .need) (c .periods)
-part-is-row p {bytes} {lies} {b} h same e handed =
+part-is-row : (p : Profile) {bytes : List ℕ} {lies : ℕ × ℕ} {b : PagesPerHour} {c : Choice} {part : List ℕ} {at : ℕ × ℕ} → Bytes bytes → (handed : LooksUp p bytes lies b part at) → LooksUpAs p bytes (handed .found) c → c .verdict ≡ Sound → part ≡ tableRow (c .need) (c .periods)
+part-is-row p {bytes} {lies} {b} h handed same e =
     let sound = same .verdict ∙ e in
     let row = same .row e in
-    let k = lastWithin bytes b (rowsIn bytes) in
-    handed .holds ∙ sym (beside-sound _ _ (sym sound)) ∙ sym (row-kept bytes k h (found-answers p bytes b sound .there)) ∙ ap₂ tableRow (row .start) (row .periods)
+    let there = sound-answers p bytes b (handed .located) sound .there in
+    handed .holds ∙ sym (beside-sound _ _ (sym sound)) ∙ sym (row-kept bytes (handed .found .count - 1) h there) ∙ ap₂ tableRow (row .start) (row .periods)
 
 holds-bytes : (p : Profile) {bytes : List ℕ} → HoldsTable p bytes → Bytes bytes
 holds-bytes p h = subst Bytes (sym (h .is)) (table-is-bytes (jobsOf p) (h .valid .jobs) (few-jobs p (h .valid)) (h .rows) (table-permitted (h .table)))
@@ -36,4 +36,4 @@ holds-bytes p h = subst Bytes (sym (h .is)) (table-is-bytes (jobsOf p) (h .valid
 -- Whatever `build_table`, `choose` and `lookup` may answer to a budget that is not refused.
 pub built-handed-back : (p : Profile) (old : List ℕ) {r : Counted} {new : List ℕ} → Built p old r new → r .verdict ≡ Sound → (b : PagesPerHour) → b .0 < 2 ^ 32 → {c : Choice} → Chosen p b c → c .verdict ≡ Sound
     → {lies : ℕ × ℕ} {part : List ℕ} {at : ℕ × ℕ} → LooksUp p (take (16 * r .count) new) lies b part at → part ≡ tableRow (c .need) (c .periods)
-built-handed-back p old built e b small chosen sound handed = part-is-row p (holds-bytes p (built-holds p old built e)) (built-looked-up p old built e b small chosen) sound handed
+built-handed-back p old built e b small {c} chosen sound handed = part-is-row p (holds-bytes p (built-holds p old built e)) handed (built-looked-up p old built e b small c chosen (handed .found) (handed .located)) sound

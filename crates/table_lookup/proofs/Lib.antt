@@ -1,6 +1,5 @@
-pub mod Chain
+pub mod Computed
 pub mod Finding
-pub mod Formed
 pub mod HandedBack
 pub mod InOrder
 pub mod Laid

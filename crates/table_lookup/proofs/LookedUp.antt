@@ -2,58 +2,36 @@
 -- Assumes nothing.
 use mathlib.Core.Path.{_≡_, refl, sym, _∙_, ap, ap₂, subst}
 use mathlib.Core.List.{List, [], _∷_, _++_}
-use mathlib.Core.Bool.{Bool}
-use Prim.Native.Nat.{ℕ, _*_, _^_, _≤_, _<_}
+use Prim.Native.Nat.{ℕ, _+_, _*_, _-_, _^_, _≤_, _<_}
 use native.Mathlib.Omega.{arith}
 use native.Mathlib.Decide.{decLe}
 use lib.ListN.{length, getD, take, drop}
 use lib.Seq.{take-at}
-use borrow.Author.Tests.{lt-ltb, le-ltb, eqb-false}
+use borrow.Author.Tests.{eqb-false}
 use Rattle.model.specs.declared.Seconds.{Seconds}
 use Rattle.model.specs.declared.PagesPerHour.{PagesPerHour}
 use Rattle.model.specs.declared.Job.{Job}
 use Rattle.model.specs.declared.Profile.{Profile}
 use Rattle.model.specs.declared.Counted.{Counted}
 use Rattle.model.specs.declared.Verdict.the-variants.{Sound, Budget}
-use Rattle.model.specs.Model.{seconds, jobsOf, need, loss, Best, numberOf, refuseIf, verdictOf, rowsVerdict, padded}
+use Rattle.model.specs.Model.{seconds, jobsOf, need, loss, Best, numberOf, verdictOf, rowsVerdict, padded}
 use Rattle.model.specs.Valid.{ValidJobs, Valid}
 use Rattle.model.proofs.Validity.{sound-valid, valid-sound}
 use Rattle.model.proofs.Verdicts.{both-sound, test-passed, beside-sound}
 use Rattle.choose.specs.declared.Choice.{Choice}
-use Rattle.choose.specs.Choice.{answered, LeastBudget, Outcome, given, none-permitted, none-fit, Chosen}
+use Rattle.choose.specs.Choice.{answered, LeastBudget, Outcome, given, none-permitted, none-fit}
 use Rattle.choose.proofs.OneOutcome.{one-least-budget}
 use Rattle.table.specs.Table.{TableOf, tableBytes, Built}
 use Rattle.table.proofs.Best.{best-at-need, needs-follow}
 use Rattle.table.proofs.Reading.{first-start}
-use Rattle.table_row.specs.Table.{rowsIn, startAt, periodsAt, lossAt}
-use Rattle.table_lookup.specs.Formed.{WellFormed, Answers}
-use Rattle.table_lookup.specs.Lookup.{lookupVerdict, lastWithin}
-use Rattle.table_lookup.proofs.Formed.{formed-verdict}
-use Rattle.table_lookup.proofs.Finding.{found-answers, one-answers}
+use Rattle.table_row.specs.Table.{startAt}
+use Rattle.table_check.specs.Formed.{WellFormed}
+use Rattle.table_lookup.specs.Lookup.{Answers, noRow, Finds, below-first, answering}
+use Rattle.table_lookup.specs.AsChosen.{Shows, LooksUpAs, LooksUpAll}
+use Rattle.table_lookup.proofs.OneOutcome.{finds-one}
 use Rattle.table_lookup.proofs.Laid.{length-table, row-member, member-row, laid-alone, loss-at}
 use Rattle.table_lookup.proofs.InOrder.{table-permitted, starts-rise}
 use Rattle.table_lookup.proofs.TableFormed.{row-start, start-number, row-periods, rows-in, table-well-formed}
-
--- Row k of a table's bytes is a choice's plan.
-pub record Shows (p : Profile) (bytes : List ℕ) (k : ℕ) (c : Choice) : Type 0 where
-  pub start : startAt bytes k ≡ c .need
-  pub periods : periodsAt bytes k ≡ c .periods
-  pub loss : lossAt p bytes k ≡ c .loss
-
--- A budget is looked up in these bytes as it was chosen for: the same verdict, the detail of 10 included, and in the row found the same plan.
-pub record LooksUpAs (p : Profile) (bytes : List ℕ) (b : PagesPerHour) (c : Choice) : Type 0 where
-  pub verdict : lookupVerdict p bytes b ≡ c .verdict
-  pub row : c .verdict ≡ Sound → Shows p bytes (lastWithin bytes b (rowsIn bytes)) c
-
--- the two verdicts of a well-formed table
-module _ (p : Profile) (v : Valid p) {bytes : List ℕ} (w : WellFormed p bytes) (b : PagesPerHour) where
-  below-refused : b .0 < startAt bytes 0 .0 → lookupVerdict p bytes b ≡ Budget (startAt bytes 0)
-  unfolding refuseIf
-  below-refused less = formed-verdict p bytes b v w ∙ ap (λ (t : Bool). refuseIf t (Budget (startAt bytes 0)) Sound) (lt-ltb (b .0) (startAt bytes 0 .0) less)
-
-  from-first-sound : startAt bytes 0 .0 ≤ b .0 → lookupVerdict p bytes b ≡ Sound
-  unfolding refuseIf
-  from-first-sound enough = formed-verdict p bytes b v w ∙ ap (λ (t : Bool). refuseIf t (Budget (startAt bytes 0)) Sound) (le-ltb (b .0) (startAt bytes 0 .0) enough)
 
 -- the first row's need is the least budget that would do
 first-least : (js : List Job) → ValidJobs js → (rows : List (List Seconds)) → TableOf js rows → 0 < length rows → LeastBudget js (need js (getD rows 0 []))
@@ -69,6 +47,10 @@ module _ (p : Profile) (v : Valid p) {rows : List (List Seconds)} (t : TableOf (
 
   first-there : startAt (tableBytes (jobsOf p) rows) 0 ≡ need (jobsOf p) (getD rows 0 [])
   first-there = row-start p v t (laid-alone (jobsOf p) rows) 0 some
+
+  -- what is found is what was chosen
+  FoundAs : Choice → Type 0
+  FoundAs c = (r : Counted) × Finds p (tableBytes (jobsOf p) rows) b r × LooksUpAs p (tableBytes (jobsOf p) rows) r c
 
   module _ {ts : List Seconds} (best : Best (jobsOf p) b ts) where
     -- the row of the best list answers the budget
@@ -93,30 +75,32 @@ module _ (p : Profile) (v : Valid p) {rows : List (List Seconds)} (t : TableOf (
       loss = loss-at p v (table-permitted t) (laid-alone (jobsOf p) rows) i less ∙ ap (loss (jobsOf p)) e;
     }
 
-    best-looked-up : LooksUpAs p (tableBytes (jobsOf p) rows) b (answered (jobsOf p) ts)
+    best-looked-up : FoundAs (answered (jobsOf p) ts)
+    unfolding FoundAs
     best-looked-up =
         let at = member-row (t .every-budget b ts small best) in
-        let sound = from-first-sound p v formed b (omega (arith, ap (λ (q : PagesPerHour). q .0) first-there, first .fewest b ts (best .permitted) (best .fits))) in
-        let same = one-answers _ b _ _ (found-answers p _ b sound) (best-answers (at .0) (at .1) (at .2)) in
-        record { verdict = sound; row = λ e. subst (λ (k : ℕ). Shows p (tableBytes (jobsOf p) rows) k (answered (jobsOf p) ts)) (sym same) (best-shown (at .0) (at .1) (at .2)) }
+        let back : at .0 ≡ at .0 + 1 - 1 = omega arith in
+        (record { verdict = Sound; count = at .0 + 1 }, answering formed (best-answers (at .0) (at .1) (at .2)), record { verdict = refl; row = λ e. subst (λ (k : ℕ). Shows p (tableBytes (jobsOf p) rows) k (answered (jobsOf p) ts)) back (best-shown (at .0) (at .1) (at .2)) })
 
-  outcome-looked-up : {c : Choice} → Outcome (jobsOf p) b c → LooksUpAs p (tableBytes (jobsOf p) rows) b c
+  outcome-looked-up : {c : Choice} → Outcome (jobsOf p) b c → FoundAs c
+  unfolding FoundAs
   outcome-looked-up (given best) = best-looked-up best
   outcome-looked-up (none-permitted no-list) = absurd (no-list _ (first .enough .1))
   outcome-looked-up (none-fit l unfit) =
       let below : b .0 < startAt (tableBytes (jobsOf p) rows) 0 .0 = too-small (decLe (need (jobsOf p) (getD rows 0 []) .0) (b .0)) in
-      record {
-        verdict = below-refused p v formed b below ∙ ap Budget (first-there ∙ one-least-budget first l);
-        row = λ e. absurd (eqb-false 10 0 refl (ap numberOf e));
-      }
+      (noRow (Budget (startAt (tableBytes (jobsOf p) rows) 0)), below-first formed below, record { verdict = ap Budget (first-there ∙ one-least-budget first l); row = λ e. absurd (eqb-false 10 0 refl (ap numberOf e)) })
     where
       too-small : Dec (need (jobsOf p) (getD rows 0 []) .0 ≤ b .0) → b .0 < startAt (tableBytes (jobsOf p) rows) 0 .0
       too-small (yes le) = absurd (unfit _ (table-permitted t _ (row-member rows 0 some)) le)
       too-small (no gt) = omega (arith, ap (λ (q : PagesPerHour). q .0) first-there)
 
 -- Every budget is looked up in the bytes of a profile's table as it is chosen for.
-pub table-looked-up : (p : Profile) → Valid p → {rows : List (List Seconds)} → TableOf (jobsOf p) rows → (length rows ≡ 0 → ⊥) → (b : PagesPerHour) → b .0 < 2 ^ 32 → {c : Choice} → Chosen p b c → LooksUpAs p (tableBytes (jobsOf p) rows) b c
-table-looked-up p v {rows} t some b small chosen = outcome-looked-up p v t (omega arith) b small (chosen .sound (valid-sound p v))
+pub table-looked-up : (p : Profile) → Valid p → {rows : List (List Seconds)} → TableOf (jobsOf p) rows → (length rows ≡ 0 → ⊥) → LooksUpAll p (tableBytes (jobsOf p) rows)
+unfolding FoundAs
+table-looked-up p v {rows} t some b small c chosen r located =
+    let sound = valid-sound p v in
+    let found = outcome-looked-up p v t (omega arith) b small (chosen .sound sound) in
+    subst (λ (s : Counted). LooksUpAs p (tableBytes (jobsOf p) rows) s c) (finds-one (found .1) (located .sound sound)) (found .2)
 
 -- bytes that are a valid profile's table, which has rows
 pub record HoldsTable (p : Profile) (bytes : List ℕ) : Type 0 where
@@ -144,8 +128,8 @@ built-holds p old {r} {new} built e =
       is = ap₂ (λ (k : ℕ) (l : List ℕ). take (16 * k) l) count bytes ∙ take-at T (drop (16 * length rows) old) (16 * length rows) (length-table (jobsOf p) rows);
     }
 
--- Whatever `build_table` and `choose` may answer, every budget is looked up in the bytes written as it is chosen for.
-pub built-looked-up : (p : Profile) (old : List ℕ) {r : Counted} {new : List ℕ} → Built p old r new → r .verdict ≡ Sound → (b : PagesPerHour) → b .0 < 2 ^ 32 → {c : Choice} → Chosen p b c → LooksUpAs p (take (16 * r .count) new) b c
-built-looked-up p old built e b small {c} chosen =
+-- Whatever `build_table`, `choose` and `locate` may answer, every budget is looked up in the bytes written as it is chosen for.
+pub built-looked-up : (p : Profile) (old : List ℕ) {r : Counted} {new : List ℕ} → Built p old r new → r .verdict ≡ Sound → LooksUpAll p (take (16 * r .count) new)
+built-looked-up p old built e =
     let h = built-holds p old built e in
-    subst (λ (s : List ℕ). LooksUpAs p s b c) (sym (h .is)) (table-looked-up p (h .valid) (h .table) (h .some) b small chosen)
+    subst (LooksUpAll p) (sym (h .is)) (table-looked-up p (h .valid) (h .table) (h .some))

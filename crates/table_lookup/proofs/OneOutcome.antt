@@ -1,45 +1,138 @@
 -- Any two outcomes that a public contract of this crate allows are equal, and the operations agree: the part is empty exactly on a refusal,
--- and else it is the row of the number told.
+-- and else it is the row of the number told. A table has one first bad row, and one row that answers.
 -- Assumes nothing.
 use mathlib.Core.Path.{_≡_, refl, _∙_, sym, ap, subst}
 use mathlib.Core.List.{List, []}
-use Prim.Native.Nat.{ℕ, zero, suc, _*_, _-_}
+use mathlib.Core.Bool.{Bool, true, false}
+use Prim.Native.Nat.{ℕ, zero, suc, _+_, _*_, _-_, _≤_}
 use native.Mathlib.Omega.{arith}
 use lib.ListN.{length, take, drop, length-drop}
 use lib.Seq.{length-take-le}
-use lib.Dec.{T}
-use borrow.Author.Tests.{eqb-false, lt-ltb}
+use lib.Dec.{T, ltb}
+use borrow.Author.Tests.{eqb-false, lt-ltb, ltb-true, ltb-false}
 use Rattle.model.specs.declared.PagesPerHour.{PagesPerHour}
 use Rattle.model.specs.declared.Profile.{Profile}
 use Rattle.model.specs.declared.Counted.{Counted}
 use Rattle.model.specs.declared.Verdict.{Verdict}
-use Rattle.model.specs.declared.Verdict.the-variants.{Sound}
-use Rattle.model.specs.Model.{numberOf}
+use Rattle.model.specs.declared.Verdict.the-variants.{Sound, Row}
+use Rattle.model.specs.Model.{numberOf, ifSound, verdictOf}
+use Rattle.model.proofs.ProfileFirst.{sound-or-not, one-first}
 use Rattle.model.proofs.Verdicts.{Refuses, beside-sound, beside-refusal, sound-of-zero}
-use Rattle.table_row.specs.Table.{rowsIn}
-use Rattle.table_lookup.specs.Lookup.{lookupVerdict, lastWithin, LooksUp, Locates}
-use Rattle.table_lookup.proofs.Finding.{found-answers}
+use Rattle.table_check.specs.Formed.{FirstBadRow}
+use Rattle.table_lookup.specs.Lookup.{Answers, noRow, Finds, wrong-length, bad-row, below-first, answering, Locates, JudgesLookup, LooksUp}
+use Rattle.table_lookup.proofs.Finding.{one-answers, below-none}
+
+first-bad-one : {p : Profile} {bytes : List ℕ} (k j : ℕ) → FirstBadRow p bytes k → FirstBadRow p bytes j → k ≡ j
+first-bad-one k j one other = go (ltb k j) refl (ltb j k) refl
+  where
+    go : (t : Bool) → ltb k j ≡ t → (u : Bool) → ltb j k ≡ u → k ≡ j
+    go true e u f = absurd (one .bad (other .before k (ltb-true k j e)))
+    go false e true f = absurd (other .bad (one .before j (ltb-true j k f)))
+    go false e false f = omega (arith, ltb-false k j e, ltb-false j k f)
+
+pub finds-one : {p : Profile} {bytes : List ℕ} {b : PagesPerHour} {r s : Counted} → Finds p bytes b r → Finds p bytes b s → r ≡ s
+finds-one (wrong-length odd) (wrong-length odd′) = refl
+finds-one (wrong-length odd) (bad-row w f) = absurd (odd w)
+finds-one (wrong-length odd) (below-first w l) = absurd (odd (w .size))
+finds-one (wrong-length odd) (answering w a) = absurd (odd (w .size))
+finds-one (bad-row w f) (wrong-length odd) = absurd (odd w)
+finds-one (bad-row w f) (bad-row w′ f′) = ap (λ (k : ℕ). noRow (Row (k + 1))) (first-bad-one _ _ f f′)
+finds-one (bad-row w f) (below-first w′ l) = absurd (f .bad (w′ .rows _ (f .there)))
+finds-one (bad-row w f) (answering w′ a) = absurd (f .bad (w′ .rows _ (f .there)))
+finds-one (below-first w l) (wrong-length odd) = absurd (odd (w .size))
+finds-one (below-first w l) (bad-row w′ f) = absurd (f .bad (w .rows _ (f .there)))
+finds-one (below-first w l) (below-first w′ l′) = refl
+finds-one {p} {bytes} {b} (below-first w l) (answering w′ a) = absurd (below-none p bytes w b l _ a)
+finds-one (answering w a) (wrong-length odd) = absurd (odd (w .size))
+finds-one (answering w a) (bad-row w′ f) = absurd (f .bad (w .rows _ (f .there)))
+finds-one {p} {bytes} {b} (answering w a) (below-first w′ l) = absurd (below-none p bytes w b l _ a)
+finds-one {p} {bytes} {b} (answering w a) (answering w′ a′) = ap (λ (k : ℕ). record { verdict = Sound; count = k + 1 }) (one-answers bytes b _ _ a a′)
+
+pub locate-one-outcome : (p : Profile) (bytes : List ℕ) (b : PagesPerHour) {r s : Counted} → Locates p bytes b r → Locates p bytes b s → r ≡ s
+locate-one-outcome p bytes b one other = one-first finds-one one other
+
+pub judge-lookup-one-outcome : (p : Profile) (bytes : List ℕ) (b : PagesPerHour) {r s : Verdict} → JudgesLookup p bytes b r → JudgesLookup p bytes b s → r ≡ s
+judge-lookup-one-outcome p bytes b one other = one .verdict ∙ ap (λ (c : Counted). c .verdict) (locate-one-outcome p bytes b (one .located) (other .located)) ∙ sym (other .verdict)
 
 -- a part is the same bytes at the same place
 pub lookup-one-outcome : (p : Profile) (bytes : List ℕ) (lies : ℕ × ℕ) (b : PagesPerHour) {r s : List ℕ} {at other-at : ℕ × ℕ} → LooksUp p bytes lies b r at → LooksUp p bytes lies b s other-at → (r ≡ s) × (at ≡ other-at)
-lookup-one-outcome p bytes lies b one other = (one .holds ∙ sym (other .holds), one .place ∙ sym (other .place))
+lookup-one-outcome p bytes lies b one other =
+    let same = locate-one-outcome p bytes b (one .located) (other .located) in
+    (one .holds ∙ ap (λ (c : Counted). ifSound (c .verdict) (take 16 (drop (16 * (c .count - 1)) bytes)) []) same ∙ sym (other .holds), one .place ∙ ap (λ (c : Counted). (lies .0, lies .1 + 16 * (c .count - 1))) same ∙ sym (other .place))
 
-pub judge-lookup-one-outcome : (p : Profile) (bytes : List ℕ) (b : PagesPerHour) {r s : Verdict} → r ≡ lookupVerdict p bytes b → s ≡ lookupVerdict p bytes b → r ≡ s
-judge-lookup-one-outcome p bytes b one other = one ∙ sym other
+-- beside a sound verdict stands the number of a row that answers, and beside a refusal none
+record RowBeside (bytes : List ℕ) (b : PagesPerHour) (r : Counted) : Type 0 where
+  some : 1 ≤ r .count
+  answers : Answers bytes b (r .count - 1)
 
-pub locate-one-outcome : (p : Profile) (bytes : List ℕ) (b : PagesPerHour) {r s : Counted} → Locates p bytes b r → Locates p bytes b s → r ≡ s
-locate-one-outcome p bytes b one other = λ i. record { verdict = (one .verdict ∙ sym (other .verdict)) i; count = (one .count ∙ sym (other .count)) i }
+sound-finds : {p : Profile} {bytes : List ℕ} {b : PagesPerHour} {r : Counted} → Finds p bytes b r → r .verdict ≡ Sound → RowBeside bytes b r
+sound-finds (wrong-length odd) e = absurd (eqb-false 12 0 refl (ap numberOf e))
+sound-finds (bad-row w f) e = absurd (eqb-false 12 0 refl (ap numberOf e))
+sound-finds (below-first w l) e = absurd (eqb-false 10 0 refl (ap numberOf e))
+sound-finds {bytes} {b} (answering {k} w a) e =
+    let back : k ≡ k + 1 - 1 = omega arith in
+    record { some = omega arith; answers = subst (Answers bytes b) back a }
+
+refused-finds : {p : Profile} {bytes : List ℕ} {b : PagesPerHour} {r : Counted} → Finds p bytes b r → Refuses (r .verdict) → r ≡ noRow (r .verdict)
+refused-finds (wrong-length odd) h = refl
+refused-finds (bad-row w f) h = refl
+refused-finds (below-first w l) h = refl
+refused-finds (answering w a) h = absurd h
+
+module _ (p : Profile) (bytes : List ℕ) (b : PagesPerHour) {r : Counted} (located : Locates p bytes b r) where
+  beside : r .verdict ≡ Sound → RowBeside bytes b r
+  beside e = go (sound-or-not (verdictOf p))
+    where
+      go : Dec (verdictOf p ≡ Sound) → RowBeside bytes b r
+      go (yes own) = sound-finds (located .sound own) e
+      go (no ne) = absurd (ne (sym (ap (λ (c : Counted). c .verdict) (located .own ne)) ∙ e))
+
+  pub sound-answers : r .verdict ≡ Sound → Answers bytes b (r .count - 1)
+  sound-answers e = beside e .answers
+
+  pub sound-number : r .verdict ≡ Sound → 1 ≤ r .count
+  sound-number e = beside e .some
+
+  pub refused-alone : Refuses (r .verdict) → r ≡ noRow (r .verdict)
+  refused-alone h = go (sound-or-not (verdictOf p))
+    where
+      go : Dec (verdictOf p ≡ Sound) → r ≡ noRow (r .verdict)
+      go (yes own) = refused-finds (located .sound own) h
+      go (no ne) =
+          let e = located .own ne in
+          e ∙ ap noRow (sym (ap (λ (c : Counted). c .verdict) e))
+
+  pub refused-number : Refuses (r .verdict) → r .count ≡ 0
+  refused-number h = ap (λ (c : Counted). c .count) (refused-alone h)
+
+-- the answer that a verdict told goes with
+module _ (p : Profile) (bytes : List ℕ) (b : PagesPerHour) {v : Verdict} (told : JudgesLookup p bytes b v) where
+  pub refused-located : Refuses v → Locates p bytes b (noRow v)
+  refused-located h =
+      let alone = refused-alone p bytes b (told .located) (subst Refuses (told .verdict) h) in
+      subst (Locates p bytes b) (alone ∙ ap noRow (sym (told .verdict))) (told .located)
+
+  pub row-located : v ≡ Sound → {k : ℕ} → Answers bytes b k → Locates p bytes b (record { verdict = Sound; count = k + 1 })
+  row-located e {k} a =
+      let sound = sym (told .verdict) ∙ e in
+      let r = told .found in
+      let same = one-answers bytes b _ _ (sound-answers p bytes b (told .located) sound) a in
+      let number : r .count ≡ k + 1 = omega (arith, same, sound-number p bytes b (told .located) sound) in
+      subst (Locates p bytes b) (λ i. record { verdict = sound i; count = number i }) (told .located)
 
 -- on the same inputs: a refusal and the empty part, or no refusal and the sixteen bytes of a row
-module _ (p : Profile) (bytes : List ℕ) (lies : ℕ × ℕ) (b : PagesPerHour) {r : List ℕ} {at : ℕ × ℕ} {v : Verdict} (part : LooksUp p bytes lies b r at) (told : v ≡ lookupVerdict p bytes b) where
+module _ (p : Profile) (bytes : List ℕ) (lies : ℕ × ℕ) (b : PagesPerHour) {r : List ℕ} {at : ℕ × ℕ} {v : Verdict} (part : LooksUp p bytes lies b r at) (told : JudgesLookup p bytes b v) where
+  same-verdict : v ≡ part .found .verdict
+  same-verdict = told .verdict ∙ ap (λ (c : Counted). c .verdict) (locate-one-outcome p bytes b (told .located) (part .located))
+
   pub refused-empty : Refuses v → r ≡ []
-  refused-empty h = part .holds ∙ sym (beside-refusal _ _ h told)
+  refused-empty h = part .holds ∙ sym (beside-refusal _ _ h same-verdict)
 
   pub sound-sixteen : v ≡ Sound → length r ≡ 16
   sound-sixteen e =
-      let k = lastWithin bytes b (rowsIn bytes) in
-      let there = found-answers p bytes b (sym told ∙ e) .there in
-      ap length (part .holds ∙ sym (beside-sound _ _ (sym e ∙ told))) ∙ length-take-le 16 (drop (16 * k) bytes) (omega (arith, length-drop (16 * k) bytes))
+      let k = part .found .count - 1 in
+      let there = sound-answers p bytes b (part .located) (sym same-verdict ∙ e) .there in
+      ap length (part .holds ∙ sym (beside-sound _ _ (sym e ∙ same-verdict))) ∙ length-take-le 16 (drop (16 * k) bytes) (omega (arith, length-drop (16 * k) bytes))
 
 -- a verdict that is not sound is a refusal
 refuses-of : (v : Verdict) {A : Type 0} → (v ≡ Sound → A → ⊥) → A → Refuses v
@@ -50,13 +143,13 @@ refuses-of v none a = positive (numberOf v) refl
     positive (suc n) e = subst T (sym (lt-ltb 0 (numberOf v) (omega arith))) tt
 
 -- the part is empty exactly when the verdict is a refusal
-pub lookups-agree : (p : Profile) (bytes : List ℕ) (lies : ℕ × ℕ) (b : PagesPerHour) {r : List ℕ} {at : ℕ × ℕ} {v : Verdict} → LooksUp p bytes lies b r at → v ≡ lookupVerdict p bytes b → (Refuses v → r ≡ []) × (r ≡ [] → Refuses v)
+pub lookups-agree : (p : Profile) (bytes : List ℕ) (lies : ℕ × ℕ) (b : PagesPerHour) {r : List ℕ} {at : ℕ × ℕ} {v : Verdict} → LooksUp p bytes lies b r at → JudgesLookup p bytes b v → (Refuses v → r ≡ []) × (r ≡ [] → Refuses v)
 lookups-agree p bytes lies b {r} {at} {v} part told = (refused-empty p bytes lies b part told, refuses-of v (λ (e : v ≡ Sound) (none : r ≡ []). eqb-false 16 0 refl (sym (sound-sixteen p bytes lies b part told e) ∙ ap length none)))
 
 -- where a row is handed back, it is the row of the number told beside it
 pub located-part : (p : Profile) (bytes : List ℕ) (lies : ℕ × ℕ) (b : PagesPerHour) {r : List ℕ} {at : ℕ × ℕ} {l : Counted} → LooksUp p bytes lies b r at → Locates p bytes b l → l .verdict ≡ Sound → r ≡ take 16 (drop (16 * (l .count - 1)) bytes)
 located-part p bytes lies b {r} {at} {l} part told e =
-    let s = sym e ∙ told .verdict in
-    let number = told .count ∙ sym (beside-sound _ _ s) in
-    let row : lastWithin bytes b (rowsIn bytes) ≡ l .count - 1 = omega arith in
-    part .holds ∙ sym (beside-sound _ _ s) ∙ ap (λ (n : ℕ). take 16 (drop (16 * n) bytes)) row
+    let same = locate-one-outcome p bytes b (part .located) told in
+    part .holds
+    ∙ ap (λ (c : Counted). ifSound (c .verdict) (take 16 (drop (16 * (c .count - 1)) bytes)) []) same
+    ∙ sym (beside-sound _ _ (sym e))

@@ -2,7 +2,7 @@
 -- Assumes nothing.
 use mathlib.Core.Path.{_≡_, refl, sym, _∙_, ap, subst}
 use mathlib.Core.List.{List, List·Memᴰ, Memᴰ·cast}
-use Prim.Native.Nat.{ℕ, _*_, _^_, _<_}
+use Prim.Native.Nat.{ℕ, _*_, _-_, _^_, _<_}
 use native.Mathlib.Nat.{le-refl}
 use native.Mathlib.Omega.{arith}
 use lib.ListN.{take}
@@ -26,23 +26,28 @@ use Rattle.table.proofs.Descent.{descent-table}
 use Rattle.table.proofs.OneOutcome.{table-one}
 use Rattle.table.proofs.Reading.{table-answers}
 use Rattle.table_row.specs.Table.{rowsIn, startAt}
-use Rattle.table_lookup.specs.Formed.{WellFormed, Answers}
-use Rattle.table_lookup.specs.Lookup.{lastWithin}
-use Rattle.table_lookup.proofs.Formed.{passes-formed}
-use Rattle.table_lookup.proofs.Finding.{found-answers, one-answers}
+use Rattle.table_check.specs.Formed.{WellFormed}
+use Rattle.table_lookup.specs.Lookup.{Answers, Finds, wrong-length, bad-row, below-first, answering}
+use Rattle.table_lookup.specs.AsChosen.{LooksUpAs, LooksUpAll}
+use Rattle.table_lookup.proofs.Computed.{locateFor, locate-meets}
+use Rattle.table_lookup.proofs.Finding.{one-answers, starts-climb}
+use Rattle.table_lookup.proofs.OneOutcome.{sound-answers}
 use Rattle.table_lookup.proofs.Laid.{few-jobs, unpadded}
-use Rattle.table_lookup.proofs.LookedUp.{LooksUpAs, built-holds}
-use Rattle.table_lookup.proofs.RowsRead.{listAt, rowsRead, read-member, member-place, starts-climb, read-rising, formed-bytes}
-
--- Every 32-bit budget is looked up in these bytes as it is chosen for.
-abbrev pub LooksUpAll : Profile → List ℕ → Type 0
-LooksUpAll p bytes = (b : PagesPerHour) → b .0 < 2 ^ 32 → (c : Choice) → Chosen p b c → LooksUpAs p bytes b c
+use Rattle.table_lookup.proofs.LookedUp.{built-holds}
+use Rattle.table_lookup.proofs.RowsRead.{listAt, rowsRead, read-member, member-place, read-rising, formed-bytes}
 
 -- choosing is never refused with 12
 no-twelve : {js : List Job} {b : PagesPerHour} {c : Choice} → Outcome js b c → numberOf (c .verdict) ≡ 12 → ⊥
 no-twelve (given best) e = eqb-false 0 12 refl e
 no-twelve (none-permitted no-list) e = eqb-false 9 12 refl e
 no-twelve (none-fit l unfit) e = eqb-false 10 12 refl e
+
+-- what is found in a table, where it is not refused with 12
+not-twelve : {p : Profile} {bytes : List ℕ} {b : PagesPerHour} {r : Counted} → Finds p bytes b r → (numberOf (r .verdict) ≡ 12 → ⊥) → WellFormed p bytes
+not-twelve (wrong-length odd) h = absurd (h refl)
+not-twelve (bad-row w f) h = absurd (h refl)
+not-twelve (below-first w l) h = w
+not-twelve (answering w a) h = w
 
 module _ (p : Profile) (v : Valid p) where
   outcome-chosen : {b : PagesPerHour} {c : Choice} → Outcome (jobsOf p) b c → Chosen p b c
@@ -55,17 +60,20 @@ module _ (p : Profile) (v : Valid p) where
   module _ (bytes : List ℕ) (same : LooksUpAll p bytes) where
     pub all-formed : WellFormed p bytes
     all-formed =
-        let o = some-outcome (pagesPerHour 0) (omega arith) in
-        passes-formed p bytes (pagesPerHour 0) v (λ e. no-twelve o (ap numberOf (sym (same (pagesPerHour 0) (omega arith) _ (outcome-chosen o) .verdict)) ∙ e))
+        let b = pagesPerHour 0 in
+        let o = some-outcome b (omega arith) in
+        let found = locate-meets p bytes b in
+        let alike = same b (omega arith) _ (outcome-chosen o) _ found in
+        not-twelve (found .sound (valid-sound p v)) (λ e. no-twelve o (ap numberOf (sym (alike .verdict)) ∙ e))
 
     module _ {b : PagesPerHour} (small : b .0 < 2 ^ 32) {ts : List Seconds} (best : Best (jobsOf p) b ts) where
-      as-chosen : LooksUpAs p bytes b (answered (jobsOf p) ts)
-      as-chosen = same b small (answered (jobsOf p) ts) (outcome-chosen (given best))
+      as-chosen : LooksUpAs p bytes (locateFor p bytes b) (answered (jobsOf p) ts)
+      as-chosen = same b small (answered (jobsOf p) ts) (outcome-chosen (given best)) (locateFor p bytes b) (locate-meets p bytes b)
 
-      found : Answers bytes b (lastWithin bytes b (rowsIn bytes))
-      found = found-answers p bytes b (as-chosen .verdict)
+      found : Answers bytes b (locateFor p bytes b .count - 1)
+      found = sound-answers p bytes b (locate-meets p bytes b) (as-chosen .verdict)
 
-      found-best : listAt p bytes (lastWithin bytes b (rowsIn bytes)) ≡ ts
+      found-best : listAt p bytes (locateFor p bytes b .count - 1) ≡ ts
       found-best = ap (periodsOf p) (as-chosen .row refl .periods) ∙ unpadded p ts (best .permitted)
 
       best-read : List·Memᴰ ts (rowsRead p bytes)

@@ -21,7 +21,8 @@ use Rattle.codec.proofs.Bytes.{Bytes, within-split}
 use Rattle.table.specs.Table.{Rising, tableBytes}
 use Rattle.table.proofs.TableRows.{same-entries}
 use Rattle.table_row.specs.Table.{rowsIn, rowFields, startAt, periodsAt}
-use Rattle.table_lookup.specs.Formed.{GoodAlone, WellFormed}
+use Rattle.table_check.specs.Formed.{GoodAlone, WellFormed}
+use Rattle.table_lookup.proofs.Finding.{starts-climb}
 use Rattle.table_lookup.proofs.Laid.{row-bits, all-entries}
 
 -- Bytes and fields.
@@ -121,12 +122,6 @@ module _ (p : Profile) (bytes : List ℕ) where
       (r .0, omega (arith, r .2), r .3)
 
   module _ (w : WellFormed p bytes) where
-    pub starts-climb : (j i : ℕ) → i < j → j < rowsIn bytes → startAt bytes i .0 < startAt bytes j .0
-    starts-climb zero i after less = absurd (not-suc-le-zero after)
-    starts-climb (suc j) i after less =
-        let step : startAt bytes j .0 < startAt bytes (suc j) .0 = w .rows (suc j) less .after j (omega arith) .start in
-        ⊎-elim (λ (e : i ≡ j). subst (λ (n : ℕ). startAt bytes n .0 < startAt bytes (suc j) .0) (sym e) step) (λ (more : i < j). omega (arith, starts-climb j i more (omega arith))) (eq-or-lt-of-le (le-of-suc-le-suc after))
-
     rising-from : (m k : ℕ) → k + m ≤ rowsIn bytes → Rising (jobsOf p) (rowsFrom p bytes k m)
     unfolding rowsFrom
     rising-from zero k room = tt
@@ -137,7 +132,7 @@ module _ (p : Profile) (bytes : List ℕ) where
             let r = place-from m (k + 1) member in
             let there : r .0 < rowsIn bytes = omega (arith, r .2) in
             let here : k < rowsIn bytes = omega arith in
-            omega (arith, w .rows k here .alone .start, w .rows (r .0) there .alone .start, starts-climb (r .0) k (omega (arith, r .1)) there, ap (λ (l : List Seconds). need (jobsOf p) l .0) (r .3))
+            omega (arith, w .rows k here .alone .start, w .rows (r .0) there .alone .start, starts-climb p bytes w (r .0) k (omega (arith, r .1)) there, ap (λ (l : List Seconds). need (jobsOf p) l .0) (r .3))
 
     pub read-rising : Rising (jobsOf p) (rowsRead p bytes)
     unfolding rowsRead
@@ -145,4 +140,4 @@ module _ (p : Profile) (bytes : List ℕ) where
 
     pub formed-bytes : Bytes bytes → tableBytes (jobsOf p) (rowsRead p bytes) ≡ bytes
     unfolding rowsRead
-    formed-bytes h = bytes-from (rowsIn bytes) 0 (omega (arith, w .whole)) h (λ i less. w .rows i less .alone)
+    formed-bytes h = bytes-from (rowsIn bytes) 0 (omega (arith, w .size .whole)) h (λ i less. w .rows i less .alone)

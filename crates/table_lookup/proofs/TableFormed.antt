@@ -14,7 +14,7 @@ use Rattle.model.proofs.Entries.{length-entries}
 use Rattle.table.specs.Table.{TableOf, tableBytes}
 use Rattle.table.proofs.TableRows.{getD-padded}
 use Rattle.table_row.specs.Table.{rowsIn, startAt, periodsAt}
-use Rattle.table_lookup.specs.Formed.{GoodAlone, GoodAfter, GoodRow, WellFormed}
+use Rattle.table_check.specs.Formed.{GoodAlone, GoodAfter, GoodRow, WellFormed}
 use Rattle.table_lookup.proofs.Laid.{Laid, length-table, row-member, permitted-length, few-jobs, laid-alone, start-at, periods-at, list-at, loss-at}
 use Rattle.table_lookup.proofs.InOrder.{table-permitted, starts-rise, losses-fall-along}
 
@@ -66,8 +66,7 @@ rows-in p rows = omega (arith, length-table (jobsOf p) rows)
 
 pub table-well-formed : (p : Profile) → Valid p → {rows : List (List Seconds)} → TableOf (jobsOf p) rows → (length rows ≡ 0 → ⊥) → WellFormed p (tableBytes (jobsOf p) rows)
 table-well-formed p v {rows} t some = record {
-  some = omega (arith, size);
-  whole = omega (arith, size);
+  size = record { some = omega (arith, size); whole = omega (arith, size) };
   rows = λ k less. rows-good p v t (laid-alone (jobsOf p) rows) k (rw (rows-in p rows) at less);
 }
   where

@@ -1,16 +1,15 @@
 // Looking a budget up in a table: the row that answers it, as the caller's own bytes, or why there is none.
 //
-// specs/Lookup.antt says what is answered; a table's rows stand in crate table_row, and their checks in crate table_check.
-// specs/Formed.antt says when a table is well formed and which row answers; theorems cite it and no contract does.
+// specs/Lookup.antt says what is answered; a table's rows stand in crate table_row, and when they are well formed in crate
+// table_check. specs/AsChosen.antt serves theorems; no contract cites it.
 // Nothing is assumed, and no public function has a `requires`.
 use model::Counted;
 use model::PagesPerHour;
 use model::Profile;
 use model::Verdict;
-ghost use mathlib.Core.Path.{_≡_};
+ghost use Prim.Native.Nat.{ℕ};
 ghost use denote.Ref.{ptr};
-ghost use Rattle.table_row.specs.Table.{rowsIn};
-ghost use Rattle.table_lookup.specs.Lookup.{lookupVerdict, lastWithin, LooksUp, Locates};
+ghost use Rattle.table_lookup.specs.Lookup.{Answers, Locates, JudgesLookup, LooksUp};
 
 // The row that answers a budget, as those sixteen bytes of the lent table; an empty part on a refusal.
 pub fn lookup<'a>(p: Profile, table: &'a [u8], budget: PagesPerHour) -> &'a [u8]
@@ -45,7 +44,7 @@ pub fn locate(p: Profile, table: &[u8], budget: PagesPerHour) -> Counted
 
 // Whether there is such a row, or the number and detail of the refusal.
 pub fn judge_lookup(p: Profile, table: &[u8], budget: PagesPerHour) -> Verdict
-    ensures { λ r. ⌜ r ≡ lookupVerdict p (now (table .entry)) budget ⌝ }
+    ensures { λ r. ⌜ JudgesLookup p (now (table .entry)) budget r ⌝ }
 {
     let v = model::judge(p);
     let Verdict::Sound = v else {
@@ -68,9 +67,10 @@ pub fn judge_lookup(p: Profile, table: &[u8], budget: PagesPerHour) -> Verdict
     Verdict::Sound
 }
 
-// The last row whose start is at most the budget, 0 where there is none.
+// The last row whose start is at most the budget, counted from 0, where there is one.
 fn last_within(table: &[u8], budget: PagesPerHour) -> usize
-    ensures { λ r. ⌜ r ≡ lastWithin (now (table .entry)) budget (rowsIn (now (table .entry))) ⌝ }
+    requires { ⌜ ((k : ℕ) × Answers (now table) budget k) ⌝ }
+    ensures { λ r. ⌜ Answers (now (table .entry)) budget r ⌝ }
 {
     let mut k = table.len() / 16;
     while 0 < k {

@@ -1,4 +1,3 @@
 pub mod Cutting
 pub mod Losses
 pub mod OneOutcome
-pub mod Zeros

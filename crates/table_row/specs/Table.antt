@@ -1,10 +1,8 @@
--- A lent table's rows, their fields and the tests of one row (document 01, The table). Rows are counted from 0 here; a refusal
+-- A lent table's rows, and their fields (document 01, The table). Rows are counted from 0 here; a refusal
 -- names them from 1. Cited by public contracts, through specs/Lookup.antt of crate table_lookup. Assumes nothing.
 use mathlib.Core.List.{List, map}
-use mathlib.Core.Bool.{Bool, _&&_, _||_}
 use Prim.Native.Nat.{ℕ, _*_, _/_}
 use lib.ListN.{length, getD, take, drop}
-use lib.Dec.{eqb, ltb}
 use Rattle.model.specs.declared.Seconds.{Seconds}
 use Rattle.model.specs.declared.PagesPerHour.{PagesPerHour}
 use Rattle.model.specs.declared.Profile.{Profile}
@@ -34,7 +32,3 @@ needAt p bytes k = need (jobsOf p) (periodsOf p (periodsAt bytes k))
 
 abbrev pub lossAt : Profile → List ℕ → ℕ → ℕ
 lossAt p bytes k = loss (jobsOf p) (periodsOf p (periodsAt bytes k))
-
--- Whether row k, of this start and loss, may follow one of that start and loss; the first follows none (The table).
-unfoldable pub follows : ℕ → PagesPerHour → ℕ → PagesPerHour → ℕ → Bool
-follows k startBefore lossBefore start loss = eqb k 0 || (ltb (startBefore .0) (start .0) && ltb loss lossBefore)

@@ -1,19 +1,19 @@
 // One row of a lent table: read out of the table's bytes, and tested job by job.
 //
-// specs/Table.antt says what a table's rows and fields are and what the tests of one row ask, specs/Cut.antt how a row is
-// held. These functions serve other crates of the planner, and their callers meet what they require. Nothing is assumed.
+// specs/Table.antt says what a table's rows and fields are, specs/Cut.antt how a row is held and which may follow
+// another. These functions serve other crates of the planner, and their callers meet what they require. Nothing is assumed.
 use model::Job;
 use model::PagesPerHour;
 use model::Seconds;
 ghost use mathlib.Core.Path.{_≡_};
-ghost use Prim.Native.Nat.{_+_, _*_, _-_, _/_, _^_, _≤_, _<_};
+ghost use Prim.Native.Nat.{_+_, _*_, _/_, _^_, _≤_, _<_};
 ghost use Rattle.codec.specs.Packing.{unpack};
 ghost use Rattle.codec.specs.Rows.{tableWidths};
 ghost use Rattle.model.specs.Model.{load, cost, rate, jobLoss};
 ghost use Rattle.model.specs.Valid.{ValidJob};
 ghost use Rattle.walk.specs.Steps.{NeedFits};
-ghost use Rattle.table_row.specs.Table.{rowsIn, startAt, follows};
-ghost use Rattle.table_row.specs.Cut.{rowOf, rowAt, zerosFrom};
+ghost use Rattle.table_row.specs.Table.{rowsIn, startAt};
+ghost use Rattle.table_row.specs.Cut.{rowOf, rowAt, follows};
 
 // A table row's start and its eight periods.
 pub struct TableRow {
@@ -95,21 +95,6 @@ fn run_pages(j: Job) -> u32
     ensures { λ r. ⌜ (r ≡ load j) × (r ≡ cost j) ⌝ }
 {
     j.data + j.metadata
-}
-
-// Whether the periods from place i on are zeros.
-pub fn zeros_from(periods: [Seconds; 8], i: usize) -> bool
-    ensures { λ r. ⌜ r ≡ zerosFrom periods i (8 - i) ⌝ }
-{
-    let mut k = i;
-    while k < 8 {
-        let t = periods[k];
-        if t.0 != 0 {
-            return false;
-        }
-        k += 1;
-    }
-    true
 }
 
 // Whether a row may follow the one before it: the first follows none.

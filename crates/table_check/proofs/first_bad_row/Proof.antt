@@ -1,4 +1,4 @@
--- `table_check::first_bad_row` meets its contract: before each turn the verdict is that of the rows, and of a row's places, still to come.
+-- `table_check::first_bad_row` meets its contract: before each turn the rows, and a row's places, that were passed are right.
 -- Assumes nothing.
 use Prim.Native.Nat.{_-_, zero-le}
 use mathlib.Core.Path.{_≡_, _∙_, sym, ap}
@@ -7,11 +7,13 @@ use native.Mathlib.Omega.{arith}
 use lib.ListN.{getD}
 use borrow.Author.Needs.{needs}
 use borrow.Author.Tests.{not-true, not-false}
+use Rattle.model.specs.declared.Seconds.{Seconds}
+use Rattle.model.specs.declared.Job.{Job}
 use Rattle.model.specs.Model.{seconds, pagesPerHour, noJob, allows}
 use Rattle.model.specs.Valid.{Valid}
 use Rattle.model.proofs.Validity.{job-valid-at}
 use Rattle.model.proofs.Allowing.{allowed}
-use Rattle.table_check.proofs.Turns.{RowsLeft, PlacesLeft, Scanned, first-rows, first-places, pages-fit, loss-fits, place-off, next-place, zeros-decide, scanned-row, no-more, place-fails, start-fails, order-fails, next-row}
+use Rattle.table_check.proofs.Turns.{RowsLeft, PlacesLeft, Scanned, first-rows, first-places, pages-fit, loss-fits, place-off, next-place, next-zero, scanned-row, no-more, place-fails, zero-fails, start-fails, order-fails, next-row}
 use Rattle.table_check.proofs.first_bad_row.Statement.{statement}
 use Rattle.table_check.proofs.first_bad_row.Tie as tie
 
@@ -19,10 +21,10 @@ abbrev Inv-loop : tie.InvT-loop
 Inv-loop table p n rates rows start-before loss-before k start periods before₀ written₀ lost₀ i₀ before written lost i = PlacesLeft p periods before written lost i
 
 abbrev μ-loop : tie.MeasureT-loop
-μ-loop table p n rates rows start-before loss-before k start periods before₀ written₀ lost₀ i₀ before written lost i = n - i
+μ-loop table p n rates rows start-before loss-before k start periods before₀ written₀ lost₀ i₀ before written lost i = 8 - i
 
 abbrev Inv-rows : tie.InvT-rows
-Inv-rows table p n rates rows start-before₀ loss-before₀ k₀ start-before loss-before k = RowsLeft p table rows start-before loss-before k
+Inv-rows table p n rates rows start-before₀ loss-before₀ k₀ start-before loss-before k = RowsLeft p table start-before loss-before k
 
 abbrev μ-rows : tie.MeasureT-rows
 μ-rows table p n rates rows start-before₀ loss-before₀ k₀ start-before loss-before k = rows - k
@@ -30,16 +32,22 @@ abbrev μ-rows : tie.MeasureT-rows
 valid : (c : tie.At-loop Inv-loop μ-loop Inv-rows μ-rows) → Valid (c .before .before .before .before .before .before .before .before .args .t1)
 valid c = c .before .before .before .before .before .before .before .before .pre
 
--- a period that did not leave the loops is allowed
-passed : (c : tie.Else2 Inv-loop μ-loop Inv-rows μ-rows) → allows (getD (c .before .before .before .before .before .before .before .before .before .before .before .before .before .args .t1 .jobs) (c .before .before .before .before .before .loop .i) noJob) (c .before .before .before .before .before .loop .before) (getD (c .before .before .before .before .before .before .before .before .row-at .result .periods) (c .before .before .before .before .before .loop .i) (seconds 0)) ≡ true
-passed c = sym (c .before .allowed .ensures) ∙ not-false _ (c .if2 .left)
+-- the job and the period at hand
+abbrev jobHere : tie.In-loop Inv-loop μ-loop Inv-rows μ-rows → Job
+jobHere c = getD (c .before .before .before .before .before .before .before .before .before .args .t1 .jobs) (c .before .loop .i) noJob
 
--- past the loop over a row's periods and past the zeros, its need and its loss are known
-scanned : (c : tie.After-need-of Inv-loop μ-loop Inv-rows μ-rows) → Scanned (c .before .before .before .before .before .before .before .before .before .before .before .before .args .t1) (c .before .before .before .before .before .before .before .before .before .before .before .before .args .table .now) (c .before .before .before .before .before .before .before .before .before .rows .k) (c .before .before .before .before .before .before .before .row-at .result) (c .need-of .result) (c .before .before .before .before .loop .lost)
+abbrev periodHere : tie.In-loop Inv-loop μ-loop Inv-rows μ-rows → Seconds
+periodHere c = getD (c .before .before .before .before .row-at .result .periods) (c .before .loop .i) (seconds 0)
+
+-- a period that did not leave the loops is allowed
+passed : (c : tie.Else4 Inv-loop μ-loop Inv-rows μ-rows) → allows (jobHere (c .before .before .before .before .before)) (c .before .before .before .before .before .before .loop .before) (periodHere (c .before .before .before .before .before)) ≡ true
+passed c = sym (c .before .allowed .ensures) ∙ not-false _ (c .if4 .left)
+
+-- past the loop over a row's periods its need and its loss are known
+scanned : (c : tie.After-need-of Inv-loop μ-loop Inv-rows μ-rows) → Scanned (c .before .before .before .before .before .before .before .before .before .before .args .t1) (c .before .before .before .before .before .before .before .before .before .before .args .table .now) (c .before .before .before .before .before .before .before .rows .k) (c .before .before .before .before .before .row-at .result) (c .need-of .result) (c .before .before .loop .lost)
 scanned c =
-    let z = c .before .before in
-    let l = z .before .before in
-    rw (c .need-of .ensures) (scanned-row (valid l) (l .before .before .before .row-at .ensures) (l .loop .inv) (z .before .loop-test .left) (sym (z .zeros-from .ensures) ∙ not-false _ (c .before .if3 .left)))
+    let l = c .before .before in
+    rw (c .need-of .ensures) (scanned-row (valid l) (l .before .before .before .row-at .ensures) (l .loop .inv) (c .before .loop-test .left))
 
 cast-n : tie.Need-cast-n Inv-loop μ-loop Inv-rows μ-rows
 cast-n c = search needs
@@ -48,7 +56,7 @@ rates-of-requires : tie.Need-rates-of-requires Inv-loop μ-loop Inv-rows μ-rows
 rates-of-requires c κs = search needs
 
 rows-holds : tie.Need-rows-holds Inv-loop μ-loop Inv-rows μ-rows
-rows-holds c = first-rows _ _ _ _ _
+rows-holds c = first-rows _ _ _ _
 
 row-at-requires : tie.Need-row-at-requires Inv-loop μ-loop Inv-rows μ-rows
 row-at-requires c κs = search needs
@@ -56,49 +64,14 @@ row-at-requires c κs = search needs
 loop-holds : tie.Need-loop-holds Inv-loop μ-loop Inv-rows μ-rows
 loop-holds c = first-places _ _
 
-mul-j : tie.Need-mul-j Inv-loop μ-loop Inv-rows μ-rows
-mul-j c = search needs
-
-element-copy-out-j : tie.Need-element-copy-out-j Inv-loop μ-loop Inv-rows μ-rows
-element-copy-out-j c = omega (arith, valid (c .before) .n-to)
-
 mul-t : tie.Need-mul-t Inv-loop μ-loop Inv-rows μ-rows
 mul-t c = search needs
 
 array-copy-out-t : tie.Need-array-copy-out-t Inv-loop μ-loop Inv-rows μ-rows
-array-copy-out-t c = omega (arith, valid (c .before .before) .n-to)
-
-allowed-requires : tie.Need-allowed-requires Inv-loop μ-loop Inv-rows μ-rows
-allowed-requires c κs = c .before .before .before .loop .inv .from
+array-copy-out-t c = search needs
 
 add-bad : tie.Need-add-bad Inv-loop μ-loop Inv-rows μ-rows
 add-bad c = search needs
-
-mul-fastest : tie.Need-mul-fastest Inv-loop μ-loop Inv-rows μ-rows
-mul-fastest c = search needs
-
-array-read-fastest : tie.Need-array-read-fastest Inv-loop μ-loop Inv-rows μ-rows
-array-read-fastest c = omega (arith, valid (c .before .before .before .before .before) .n-to)
-
-written-with-requires : tie.Need-written-with-requires Inv-loop μ-loop Inv-rows μ-rows
-written-with-requires c κs =
-    let i = c .before .before .before .before in
-    let l = i .before in
-    let j = job-valid-at _ (l .loop .i) (valid l) (i .loop-test .taken) in
-    (j, pages-fit (valid l) (l .loop .inv), omega (arith, allowed _ (l .loop .before) _ (passed c) .below, j .hi-to))
-
-job-loss-requires : tie.Need-job-loss-requires Inv-loop μ-loop Inv-rows μ-rows
-job-loss-requires c κs =
-    let e = c .before in
-    let i = e .before .before .before .before in
-    let l = i .before in
-    (job-valid-at _ (l .loop .i) (valid l) (i .loop-test .taken), allowed _ (l .loop .before) _ (passed e) .above, ap pagesPerHour (l .before .before .before .before .before .before .rates-of .ensures .fastest (l .loop .i) zero-le (i .loop-test .taken)))
-
-add-lost : tie.Need-add-lost Inv-loop μ-loop Inv-rows μ-rows
-add-lost c =
-    let e = c .before .before in
-    let i = e .before .before .before .before in
-    omega (arith, loss-fits (valid (i .before)) (i .before .loop .inv) (i .loop-test .taken) (passed e), c .job-loss .ensures)
 
 add-i : tie.Need-add-i Inv-loop μ-loop Inv-rows μ-rows
 add-i c = search needs
@@ -106,21 +79,66 @@ add-i c = search needs
 loop-less : tie.Need-loop-less Inv-loop μ-loop Inv-rows μ-rows
 loop-less c = search needs
 
+-- a zero beyond the jobs
 loop-again : tie.Need-loop-again Inv-loop μ-loop Inv-rows μ-rows
 loop-again c =
-    let e = c .before .before in
-    let i = e .before .before .before .before in
-    rw (c .before .written-with .ensures, c .job-loss .ensures) (next-place (valid (i .before)) (i .before .loop .inv) (i .loop-test .taken) (passed e))
+    let t = c .before .before in
+    let i = t .before .before in
+    next-zero (i .before .loop .inv) (t .if2 .taken) (i .loop-test .taken) (c .if3 .left)
 
-zeros-from-requires : tie.Need-zeros-from-requires Inv-loop μ-loop Inv-rows μ-rows
-zeros-from-requires c κs = search needs
+mul-j : tie.Need-mul-j Inv-loop μ-loop Inv-rows μ-rows
+mul-j c = search needs
+
+element-copy-out-j : tie.Need-element-copy-out-j Inv-loop μ-loop Inv-rows μ-rows
+element-copy-out-j c = search needs
+
+allowed-requires : tie.Need-allowed-requires Inv-loop μ-loop Inv-rows μ-rows
+allowed-requires c κs = c .before .before .before .before .loop .inv .from
 
 add-bad-2 : tie.Need-add-bad-2 Inv-loop μ-loop Inv-rows μ-rows
 add-bad-2 c = search needs
 
+mul-fastest : tie.Need-mul-fastest Inv-loop μ-loop Inv-rows μ-rows
+mul-fastest c = search needs
+
+array-read-fastest : tie.Need-array-read-fastest Inv-loop μ-loop Inv-rows μ-rows
+array-read-fastest c = search needs
+
+written-with-requires : tie.Need-written-with-requires Inv-loop μ-loop Inv-rows μ-rows
+written-with-requires c κs =
+    let e = c .before .before .before in
+    let l = e .before .before .before in
+    let j = job-valid-at _ (l .loop .i) (valid l) (e .if2 .left) in
+    (j, pages-fit (valid l) (l .loop .inv), omega (arith, allowed _ (l .loop .before) _ (passed c) .below, j .hi-to))
+
+job-loss-requires : tie.Need-job-loss-requires Inv-loop μ-loop Inv-rows μ-rows
+job-loss-requires c κs =
+    let e = c .before .before .before .before in
+    let l = e .before .before .before in
+    (job-valid-at _ (l .loop .i) (valid l) (e .if2 .left), allowed _ (l .loop .before) _ (passed (c .before)) .above, ap pagesPerHour (l .before .before .before .before .before .before .rates-of .ensures .fastest (l .loop .i) zero-le (e .if2 .left)))
+
+add-lost : tie.Need-add-lost Inv-loop μ-loop Inv-rows μ-rows
+add-lost c =
+    let e = c .before .before .before .before .before in
+    let l = e .before .before .before in
+    omega (arith, loss-fits (valid l) (l .loop .inv) (e .if2 .left) (passed (c .before .before)), c .job-loss .ensures)
+
+add-i-2 : tie.Need-add-i-2 Inv-loop μ-loop Inv-rows μ-rows
+add-i-2 c = search needs
+
+loop-less-2 : tie.Need-loop-less-2 Inv-loop μ-loop Inv-rows μ-rows
+loop-less-2 c = search needs
+
+-- a job's period
+loop-again-2 : tie.Need-loop-again-2 Inv-loop μ-loop Inv-rows μ-rows
+loop-again-2 c =
+    let e = c .before .before .before .before .before in
+    let l = e .before .before .before in
+    rw (c .before .written-with .ensures, c .job-loss .ensures) (next-place (valid l) (l .loop .inv) (e .if2 .left) (passed (c .before .before)))
+
 need-of-requires : tie.Need-need-of-requires Inv-loop μ-loop Inv-rows μ-rows
 need-of-requires c κs =
-    let l = c .before .before .before in
+    let l = c .before in
     pages-fit (valid l) (l .loop .inv)
 
 add-bad-3 : tie.Need-add-bad-3 Inv-loop μ-loop Inv-rows μ-rows
@@ -141,37 +159,37 @@ rows-less c = search needs
 rows-again : tie.Need-rows-again Inv-loop μ-loop Inv-rows μ-rows
 rows-again c =
     let s = c .before .before .before .before .before in
-    let r = s .before .before .before .before .before .before .before .before in
-    next-row (r .before .rows .inv) (r .if1 .left) (scanned s) (c .before .before .if4 .left) (c .before .may-follow .ensures) (c .if5 .left)
+    let r = s .before .before .before .before .before .before in
+    next-row (r .before .rows .inv) (r .if1 .left) (scanned s) (c .before .before .if5 .left) (c .before .may-follow .ensures) (c .if6 .left)
 
 returns : tie.Need-returns Inv-loop μ-loop Inv-rows μ-rows
 returns c = no-more (c .before .rows .inv) (c .if1 .taken)
 
 returns-2 : tie.Need-returns-2 Inv-loop μ-loop Inv-rows μ-rows
 returns-2 c =
-    let i = c .before .before .before .before in
-    let l = i .before in
-    let r = l .before .before .before in
-    place-fails (r .before .before .rows .inv) (r .before .if1 .left) (r .row-at .ensures) (place-off (valid l) (l .loop .inv) (i .loop-test .taken) (sym (c .before .allowed .ensures) ∙ not-true _ (c .if2 .taken)))
+    let t = c .before .before in
+    let i = t .before .before in
+    let r = i .before .before .before .before in
+    zero-fails (r .before .before .rows .inv) (r .before .if1 .left) (r .row-at .ensures) (t .if2 .taken) (i .loop-test .taken) (c .if3 .taken)
 
 returns-3 : tie.Need-returns-3 Inv-loop μ-loop Inv-rows μ-rows
 returns-3 c =
-    let z = c .before in
-    let l = z .before .before in
+    let e = c .before .before .before in
+    let l = e .before .before .before in
     let r = l .before .before .before in
-    place-fails (r .before .before .rows .inv) (r .before .if1 .left) (r .row-at .ensures) (zeros-decide (l .loop .inv) (z .before .loop-test .left) ∙ sym (z .zeros-from .ensures) ∙ not-true _ (c .if3 .taken))
+    place-fails (r .before .before .rows .inv) (r .before .if1 .left) (r .row-at .ensures) (place-off (valid l) (l .loop .inv) (e .if2 .left) (sym (c .before .allowed .ensures) ∙ not-true _ (c .if4 .taken)))
 
 returns-4 : tie.Need-returns-4 Inv-loop μ-loop Inv-rows μ-rows
 returns-4 c =
     let s = c .before .before .before in
-    let r = s .before .before .before .before .before .before .before .before in
-    start-fails (r .before .rows .inv) (r .if1 .left) (scanned s) (c .if4 .taken)
+    let r = s .before .before .before .before .before .before in
+    start-fails (r .before .rows .inv) (r .if1 .left) (scanned s) (c .if5 .taken)
 
 returns-5 : tie.Need-returns-5 Inv-loop μ-loop Inv-rows μ-rows
 returns-5 c =
     let s = c .before .before .before .before .before in
-    let r = s .before .before .before .before .before .before .before .before in
-    order-fails (r .before .rows .inv) (r .if1 .left) (scanned s) (c .before .before .if4 .left) (c .before .may-follow .ensures) (c .if5 .taken)
+    let r = s .before .before .before .before .before .before in
+    order-fails (r .before .rows .inv) (r .if1 .left) (scanned s) (c .before .may-follow .ensures) (c .if6 .taken)
 
 pub first-bad-row-spec : {M : Type 1} → statement M
 first-bad-row-spec =
@@ -186,22 +204,24 @@ first-bad-row-spec =
     rows-holds
     row-at-requires
     loop-holds
-    mul-j
-    element-copy-out-j
     mul-t
     array-copy-out-t
-    allowed-requires
     add-bad
+    add-i
+    loop-less
+    loop-again
+    mul-j
+    element-copy-out-j
+    allowed-requires
+    add-bad-2
     mul-fastest
     array-read-fastest
     written-with-requires
     job-loss-requires
     add-lost
-    add-i
-    loop-less
-    loop-again
-    zeros-from-requires
-    add-bad-2
+    add-i-2
+    loop-less-2
+    loop-again-2
     need-of-requires
     add-bad-3
     may-follow-requires

@@ -2,7 +2,7 @@
 -- Assumes nothing.
 use native.Mathlib.Omega.{arith}
 use borrow.Author.Tests.{lt-ltb, le-ltb, eq-eqb, ne-eqb}
-use Rattle.table_row.specs.Table.{follows}
+use Rattle.table_row.specs.Cut.{follows}
 use Rattle.table_row.proofs.may_follow.Statement.{statement}
 use Rattle.table_row.proofs.may_follow.Tie as tie
 

@@ -1,10 +1,10 @@
--- When a table is well formed and which of its rows answers (document 01, The table). Cited by theorems and by no contract:
--- proofs/Formed.antt and proofs/Finding.antt show that this is what the tests of specs/Lookup.antt mean. Assumes nothing.
+-- When a lent table is well formed, and which of its rows is the first bad one (document 01, The table and Refusal numbers). Rows are
+-- counted from 0 here; a refusal names them from 1. Cited by public contracts, through specs/Lookup.antt of crate table_lookup.
+-- Assumes nothing.
 use mathlib.Core.Path.{_≡_}
 use mathlib.Core.List.{List}
 use Prim.Native.Nat.{ℕ, _+_, _%_, _≤_, _<_}
 use lib.ListN.{length, getD}
-use Rattle.model.specs.declared.PagesPerHour.{PagesPerHour}
 use Rattle.model.specs.declared.Profile.{Profile}
 use Rattle.model.specs.Model.{seconds, jobsOf, periodsOf, Permitted}
 use Rattle.table_row.specs.Table.{rowsIn, startAt, periodsAt, needAt, lossAt}
@@ -25,14 +25,18 @@ pub record GoodRow (p : Profile) (bytes : List ℕ) (k : ℕ) : Type 0 where
   pub alone : GoodAlone p bytes k
   pub after : (j : ℕ) → k ≡ j + 1 → GoodAfter p bytes j k
 
--- A well-formed table: its length is a positive multiple of 16, and each row is good (The table).
-pub record WellFormed (p : Profile) (bytes : List ℕ) : Type 0 where
+-- The first bad row: it is not good, and those before it are (Refusal numbers, 12).
+pub record FirstBadRow (p : Profile) (bytes : List ℕ) (k : ℕ) : Type 0 where
+  pub there : k < rowsIn bytes
+  pub bad : GoodRow p bytes k → ⊥
+  pub before : (j : ℕ) → j < k → GoodRow p bytes j
+
+-- A length that is a positive multiple of 16 (The table).
+pub record WholeRows (bytes : List ℕ) : Type 0 where
   pub some : 1 ≤ length bytes
   pub whole : length bytes % 16 ≡ 0
-  pub rows : (k : ℕ) → k < rowsIn bytes → GoodRow p bytes k
 
--- The row that answers a budget: the last whose start is at most that (The table).
-pub record Answers (bytes : List ℕ) (b : PagesPerHour) (k : ℕ) : Type 0 where
-  pub there : k < rowsIn bytes
-  pub within : startAt bytes k .0 ≤ b .0
-  pub last : (i : ℕ) → k < i → i < rowsIn bytes → b .0 < startAt bytes i .0
+-- A well-formed table: such a length, and each row is good (The table).
+pub record WellFormed (p : Profile) (bytes : List ℕ) : Type 0 where
+  pub size : WholeRows bytes
+  pub rows : (k : ℕ) → k < rowsIn bytes → GoodRow p bytes k
