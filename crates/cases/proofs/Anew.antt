@@ -9,12 +9,11 @@ use native.Mathlib.Nat.{le-refl}
 use lib.ListN.{length, take, drop}
 use lib.Dec.{eqb, ltb}
 use borrow.Author.Tests.{le-ltb, eqb-true}
-use Rattle.model.specs.declared.Seconds.{Seconds}
 use Rattle.model.specs.declared.Profile.{Profile}
 use Rattle.model.specs.declared.Counted.{Counted}
 use Rattle.model.specs.declared.Verdict.{Verdict}
 use Rattle.model.specs.declared.Verdict.the-variants.{Sound, NoPeriods, Room}
-use Rattle.model.specs.Model.{seconds, pagesPerHour, jobsOf, periodsOf, need, loss, numberOf, refuseIf, orElse, ifSound, verdictOf, rowsVerdict}
+use Rattle.model.specs.Model.{seconds, pagesPerHour, jobsOf, numberOf, refuseIf, orElse, ifSound, verdictOf, rowsVerdict}
 use Rattle.model.proofs.Validity.{sound-valid}
 use Rattle.model.proofs.Verdicts.{sound-of-zero, beside-sound}
 use Rattle.codec.specs.Layout.{profileLength, profileBytes}
@@ -23,8 +22,7 @@ use Rattle.profile_read.specs.Reading.{verdictOfBytes, valuesOf, noProfile}
 use Rattle.profile_read.proofs.OneOutcome.{read-profile-one-outcome}
 use Rattle.profile_write.specs.Writing.{writeVerdict, Writes}
 use Rattle.profile_write.proofs.OneOutcome.{write-profile-one-outcome}
-use Rattle.score.specs.declared.Scored.{Scored}
-use Rattle.score.specs.Scoring.{scoreVerdict, Scores}
+use Rattle.score.proofs.Computed.{scoreFor, score-meets}
 use Rattle.score.proofs.OneOutcome.{score-one-outcome}
 use Rattle.choose.specs.declared.Choice.{Choice}
 use Rattle.choose.specs.Choice.{refused, Outcome, Chosen}
@@ -70,14 +68,6 @@ choice-meets p b = record {
       (let v = sound-valid p e .jobs in
       subst (Outcome (jobsOf p) (pagesPerHour b)) (beside-sound _ _ (sym e)) (settled (jobsOf p) (pagesPerHour b) _ _ (walk-best (jobsOf p) (pagesPerHour b) v) (walk-least down-lists (jobsOf p) v)));
 }
-
--- scoring
-unfoldable pub scoreFor : Profile → List Seconds → Scored
-scoreFor p ts = record { verdict = scoreVerdict p ts; need = ifSound (scoreVerdict p ts) (need (jobsOf p) (periodsOf p ts)) (pagesPerHour 0); loss = ifSound (scoreVerdict p ts) (loss (jobsOf p) (periodsOf p ts)) 0 }
-
-score-meets : (p : Profile) (ts : List Seconds) → Scores p ts (scoreFor p ts)
-unfolding scoreFor
-score-meets p ts = record { verdict = refl; need = refl; loss = refl }
 
 -- reading
 unfoldable pub readingFor : List ℕ → Reading

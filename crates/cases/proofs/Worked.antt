@@ -8,7 +8,8 @@ use Rattle.codec.specs.Layout.{recordBytes, profileBytes}
 use Rattle.codec.specs.Rows.{tableRow}
 use Rattle.profile_read.specs.Reading.{headerOf, recordsIn, judgeRecord, judgeHeader, verdictOfBytes}
 use Rattle.profile_write.specs.Writing.{writeVerdict}
-use Rattle.score.specs.Scoring.{judgePeriod, firstUnpermitted, scoreVerdict}
+use Rattle.score.specs.Judging.{judgePeriod, firstUnpermitted}
+use Rattle.score.proofs.Computed.{scoredBy, scoreFor}
 use Rattle.walk.specs.Chains.{climb, risingFrom, multiples, descend, fallingFrom, multiplesDown, chainsBy}
 use Rattle.walk.specs.Walk.{visit, walkBy}
 use Rattle.choose_offer.specs.Found.{beats, pick}
@@ -24,11 +25,11 @@ use Rattle.table_lookup.proofs.Finding.{lastWithin}
 use Rattle.table_lookup.proofs.Computed.{wholeRows, findFor, locateFor}
 use Rattle.cases.specs.Case.{Case, Right}
 use Rattle.cases.specs.Cases.{cases}
-use Rattle.cases.proofs.Anew.{choiceFor, scoreFor, readingFor, counted, after, roomy, anew, anew-right}
+use Rattle.cases.proofs.Anew.{choiceFor, readingFor, counted, after, roomy, anew, anew-right}
 
 -- Computing every answer of a list anew gives the same list. To unfold this is to unfold all that is computed with.
 unfoldable pub Computed : List Case → Type 0
-unfolding anew readingFor verdictOfBytes judgeHeader headerOf recordsIn judgeRecord writeVerdict profileBytes recordBytes rowsVerdict chainsBy choiceFor scoreFor counted after roomy settle walkBy visit pick lessNeed beats multiples risingFrom climb multiplesDown fallingFrom descend load cost rate jobLoss entries verdictOf refuseIf orElse ifSound firstRefused judgeIntervalAndStiffness judgeJob need loss pagesIn lastOf scoreVerdict firstUnpermitted judgePeriod zonesIn zonesBelow unlessEmpty upToLast climbUp flatMap rowsOf recut pack unpack bits tableBytes tableRow descent upTo locateFor findFor wholeRows firstBad rowGood permits zerosFrom afterGood allows rowFields lastWithin
+unfolding anew readingFor verdictOfBytes judgeHeader headerOf recordsIn judgeRecord writeVerdict profileBytes recordBytes rowsVerdict chainsBy choiceFor scoreFor counted after roomy settle walkBy visit pick lessNeed beats multiples risingFrom climb multiplesDown fallingFrom descend load cost rate jobLoss entries verdictOf refuseIf orElse ifSound firstRefused judgeIntervalAndStiffness judgeJob need loss pagesIn lastOf scoredBy firstUnpermitted judgePeriod zonesIn zonesBelow unlessEmpty upToLast climbUp flatMap rowsOf recut pack unpack bits tableBytes tableRow descent upTo locateFor findFor wholeRows firstBad rowGood permits zerosFrom afterGood allows rowFields lastWithin
 Computed cs = map anew cs ≡ cs
 
 same-head : {A : Type 0} {x y : A} {xs ys : List A} → x ∷ xs ≡ y ∷ ys → x ≡ y

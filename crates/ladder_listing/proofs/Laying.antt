@@ -15,7 +15,7 @@ use Rattle.model.specs.Model.{seconds, jobsOf, periodsOf, need, loss, verdictOf
 use Rattle.model.specs.Valid.{Valid}
 use Rattle.model.proofs.Validity.{valid-sound}
 use Rattle.model.proofs.Verdicts.{sound-passes, beside-sound}
-use Rattle.score.specs.Scoring.{firstUnpermitted, scoreVerdict}
+use Rattle.score.specs.Judging.{firstUnpermitted, scoreVerdict}
 use Rattle.score.proofs.Permission.{permitted-sound}
 use Rattle.table.specs.Table.{tableBytes}
 use Rattle.table_row.specs.Table.{rowsIn, periodsAt}

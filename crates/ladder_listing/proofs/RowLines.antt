@@ -7,18 +7,18 @@ use borrow.Author.Tests.{lt-ltb, le-ltb}
 use Rattle.model.specs.declared.Seconds.{Seconds}
 use Rattle.model.specs.declared.Profile.{Profile}
 use Rattle.model.specs.declared.Verdict.the-variants.{Sound}
-use Rattle.model.specs.Model.{seconds, noJob, jobsOf, periodsOf, loss, ifSound, verdictOf}
-use Rattle.model.proofs.Entries.{length-entries}
+use Rattle.model.specs.Model.{jobsOf, periodsOf, loss, ifSound}
 use Rattle.model.proofs.Validity.{sound-valid}
-use Rattle.model.proofs.Verdicts.{Refuses, both-sound, beside-sound, beside-refusal}
+use Rattle.model.proofs.Verdicts.{Refuses, beside-sound, beside-refusal}
 use Rattle.codec.specs.declared.RowWords.{RowWords}
 use Rattle.codec.specs.Packing.{unpack}
 use Rattle.codec.specs.RowWords.{wordsAt}
 use Rattle.codec.specs.Rows.{tableWidths}
 use Rattle.sums.proofs.Scorable.{scorable}
 use Rattle.score.specs.declared.Scored.{Scored}
-use Rattle.score.specs.Scoring.{scoreVerdict, Scores}
-use Rattle.score.proofs.Permission.{sound-permitted}
+use Rattle.score.specs.Scoring.{Scores}
+use Rattle.score.specs.Judging.{scoreVerdict}
+use Rattle.score.proofs.Computed.{verdict-is, sound-own, sound-allowed, sound-loss}
 use Rattle.table_row.specs.declared.TableRow.{TableRow}
 use Rattle.table_row.specs.Table.{rowsIn}
 use Rattle.table_row.specs.Cut.{rowOf, rowAt}
@@ -33,12 +33,9 @@ row-is table k h e f = f ∙ ap (λ (x : RowWords). rowOf (unpack tableWidths (x
 
 -- periods that score
 pub scored-printable : (p : Profile) (ts : List Seconds) {s : Scored} → Scores p ts s → s .verdict ≡ Sound → Printable ts (p .n)
-unfolding scoreVerdict
 scored-printable p ts s e =
-    let both = both-sound (verdictOf p) (sym (s .verdict) ∙ e) in
-    let v = sound-valid p (both .0) in
-    let permitted = sound-permitted 0 (seconds 1) _ _ (length-entries noJob (p .jobs) 0 (p .n) ∙ sym (length-entries (seconds 0) ts 0 (p .n))) (both .1) in
-    record { few = v .n-to; each = λ i h. scorable p ts i v permitted h .to }
+    let v = sound-valid p (sound-own p ts s e) in
+    record { few = v .n-to; each = λ i h. scorable p ts i v (sound-allowed p ts s e) h .to }
 
 module _ (p : Profile) (table : List ℕ) (k : ℕ) where
   pub no-such-row : rowsIn table ≤ k → lineOfRow p table k ≡ []
@@ -53,11 +50,11 @@ module _ (p : Profile) (table : List ℕ) (k : ℕ) where
         (ap (λ (x : TableRow). ifSound (scoreVerdict p (x .periods)) (rowLine (x .start) (loss (jobsOf p) (periodsOf p (x .periods))) (periodsOf p (x .periods))) []) (sym is))
 
     pub periods-refused : Refuses (s .verdict) → lineOfRow p table k ≡ []
-    periods-refused h = here ∙ sym (beside-refusal _ _ h (scores .verdict))
+    periods-refused h = here ∙ sym (beside-refusal _ _ h (verdict-is p (row .periods) scores))
 
     pub line-there : s .verdict ≡ Sound → rowLine (row .start) (s .loss) (periodsOf p (row .periods)) ≡ lineOfRow p table k
     line-there e =
-        let sound = sym e ∙ scores .verdict in
-        ap (λ (x : ℕ). rowLine (row .start) x (periodsOf p (row .periods))) (scores .loss ∙ sym (beside-sound _ _ sound))
+        let sound = sym e ∙ verdict-is p (row .periods) scores in
+        ap (λ (x : ℕ). rowLine (row .start) x (periodsOf p (row .periods))) (sound-loss p (row .periods) scores e)
         ∙ beside-sound _ _ sound
         ∙ sym here

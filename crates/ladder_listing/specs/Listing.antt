@@ -11,7 +11,7 @@ use Rattle.model.specs.declared.Counted.{Counted}
 use Rattle.model.specs.Model.{periodsOf, orElse, ifSound}
 use Rattle.profile_read.specs.declared.Reading.{Reading}
 use Rattle.profile_read.specs.Reading.{noProfile, Reads}
-use Rattle.score.specs.Scoring.{scoreVerdict}
+use Rattle.score.specs.Judging.{scoreVerdict}
 use Rattle.table.specs.Table.{Built}
 use Rattle.table_row.specs.Table.{rowsIn, startAt, periodsAt, lossAt}
 use Rattle.ladder_line.specs.Lines.{refusalLine, headerLine, rowLine}

@@ -1,12 +1,22 @@
--- Any two outcomes that the public contract of this crate allows are equal.
+-- Any two outcomes that the public contract of this crate allows are equal: periods are permitted, or one of them is the first that is out.
 -- Assumes nothing.
-use mathlib.Core.Path.{_≡_, _∙_, sym}
+use mathlib.Core.Path.{_≡_, refl, ap}
 use mathlib.Core.List.{List}
+use Prim.Native.Nat.{ℕ}
 use Rattle.model.specs.declared.Seconds.{Seconds}
+use Rattle.model.specs.declared.Job.{Job}
 use Rattle.model.specs.declared.Profile.{Profile}
+use Rattle.model.specs.declared.Verdict.the-variants.{Periods}
+use Rattle.model.proofs.ProfileFirst.{one-first}
 use Rattle.score.specs.declared.Scored.{Scored}
-use Rattle.score.specs.Scoring.{Scores}
+use Rattle.score.specs.Scoring.{refused, Scoring, all-in, one-out, Scores}
+use Rattle.score.proofs.Permission.{permitted-none-out, one-first-out}
+
+scoring-one : {js : List Job} {ts : List Seconds} {r s : Scored} → Scoring js ts r → Scoring js ts s → r ≡ s
+scoring-one (all-in h) (all-in k) = refl
+scoring-one {js} {ts} (all-in h) (one-out f) = absurd (permitted-none-out js ts h f)
+scoring-one {js} {ts} (one-out f) (all-in h) = absurd (permitted-none-out js ts h f)
+scoring-one (one-out f) (one-out g) = ap (λ (k : ℕ). refused (Periods k)) (one-first-out f g)
 
 pub score-one-outcome : (p : Profile) (ts : List Seconds) {r s : Scored} → Scores p ts r → Scores p ts s → r ≡ s
-score-one-outcome p ts one other =
-    λ i. record { verdict = (one .verdict ∙ sym (other .verdict)) i; need = (one .need ∙ sym (other .need)) i; loss = (one .loss ∙ sym (other .loss)) i }
+score-one-outcome p ts one other = one-first scoring-one one other

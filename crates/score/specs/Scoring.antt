@@ -1,33 +1,29 @@
 -- What scoring answers (document 01, Quantities and Refusal numbers). Cited by the public contract.
 -- Assumes nothing.
-use mathlib.Core.Path.{_≡_}
-use mathlib.Core.List.{List, [], _∷_}
-use mathlib.Core.Bool.{not}
+use mathlib.Core.List.{List, _∷_}
 use Prim.Native.Nat.{ℕ, _+_}
 use Rattle.model.specs.declared.Seconds.{Seconds}
 use Rattle.model.specs.declared.Job.{Job}
 use Rattle.model.specs.declared.Profile.{Profile}
 use Rattle.model.specs.declared.Verdict.{Verdict}
 use Rattle.model.specs.declared.Verdict.the-variants.{Sound, Periods}
-use Rattle.model.specs.Model.{seconds, pagesPerHour, jobsOf, periodsOf, allows, need, loss, refuseIf, orElse, ifSound, verdictOf}
+use Rattle.model.specs.Model.{seconds, pagesPerHour, jobsOf, periodsOf, Allowed, Permitted, need, loss, ProfileFirst}
 use Rattle.score.specs.declared.Scored.{Scored}
 
--- 13 for the job numbered k: its period is outside its interval, or no multiple of the one before.
-unfoldable pub judgePeriod : Job → Seconds → Seconds → ℕ → Verdict
-judgePeriod j before t k = refuseIf (not (allows j before t)) (Periods k) Sound
+-- A refusal, and zeros beside it (Refusal numbers).
+abbrev pub refused : Verdict → Scored
+refused v = record { verdict = v; need = pagesPerHour 0; loss = 0 }
 
--- 13 for the first such job; the first of these is numbered k + 1.
-unfoldable pub firstUnpermitted : ℕ → Seconds → List Job → List Seconds → Verdict
-firstUnpermitted k before [] ts = Sound
-firstUnpermitted k before (j ∷ js) [] = Periods (k + 1)
-firstUnpermitted k before (j ∷ js) (t ∷ ts) = orElse (judgePeriod j before t (k + 1)) (firstUnpermitted (k + 1) t js ts)
+-- The number, from 1, of the first job whose period is not allowed after the one before: those before it are (Refusal numbers, 13).
+pub data FirstOut : Seconds → List Job → List Seconds → ℕ → Type 0 where
+  here : {before : Seconds} {j : Job} {js : List Job} {t : Seconds} {ts : List Seconds} → (Allowed j before t → ⊥) → FirstOut before (j ∷ js) (t ∷ ts) 1
+  later : {before : Seconds} {j : Job} {js : List Job} {t : Seconds} {ts : List Seconds} {k : ℕ} → Allowed j before t → FirstOut t js ts k → FirstOut before (j ∷ js) (t ∷ ts) (k + 1)
 
--- The profile's own verdict, then 13. The first job has no period before it: every number is a multiple of one second.
-unfoldable pub scoreVerdict : Profile → List Seconds → Verdict
-scoreVerdict p ts = orElse (verdictOf p) (firstUnpermitted 0 (seconds 1) (jobsOf p) (periodsOf p ts))
+-- What is answered for sound jobs: need and loss of permitted periods, else 13 with the first that is out (Refusal numbers, on scoring).
+pub data Scoring (js : List Job) (ts : List Seconds) : Scored → Type 0 where
+  all-in : Permitted js ts → Scoring js ts (record { verdict = Sound; need = need js ts; loss = loss js ts })
+  one-out : {k : ℕ} → FirstOut (seconds 1) js ts k → Scoring js ts (refused (Periods k))
 
--- What `score` may answer for a profile and eight numbers.
-pub record Scores (p : Profile) (ts : List Seconds) (r : Scored) : Type 0 where
-  pub verdict : r .verdict ≡ scoreVerdict p ts
-  pub need : r .need ≡ ifSound (scoreVerdict p ts) (need (jobsOf p) (periodsOf p ts)) (pagesPerHour 0)
-  pub loss : r .loss ≡ ifSound (scoreVerdict p ts) (loss (jobsOf p) (periodsOf p ts)) 0
+-- What `score` may answer for a profile and eight numbers: the profile's own refusal, and only then the rest.
+abbrev pub Scores : Profile → List Seconds → Scored → Type 0
+Scores p ts r = ProfileFirst p refused (Scoring (jobsOf p) (periodsOf p ts)) r

@@ -1,7 +1,7 @@
 // Scoring given periods: what they need and what they lose, or why they are refused.
 //
-// specs/Scoring.antt says what is answered, with the model's need and loss; crate sums reckons the two. Nothing is assumed,
-// and no public function has a `requires`.
+// specs/Scoring.antt says what is answered, with the model's need and loss, and specs/Judging.antt what the private functions
+// promise; crate sums reckons need and loss. Nothing is assumed, and no public function has a `requires`.
 use model::Job;
 use model::PagesPerHour;
 use model::Profile;
@@ -11,7 +11,8 @@ ghost use mathlib.Core.Path.{_≡_};
 ghost use Prim.Native.Nat.{_≤_};
 ghost use Rattle.model.specs.Model.{seconds, jobsOf, periodsOf};
 ghost use Rattle.model.specs.Valid.{Valid};
-ghost use Rattle.score.specs.Scoring.{judgePeriod, firstUnpermitted, Scores};
+ghost use Rattle.score.specs.Scoring.{Scores};
+ghost use Rattle.score.specs.Judging.{judgePeriod, firstUnpermitted};
 
 // What scoring answers: need and loss, zeros beside a refusal.
 pub struct Scored {

@@ -11,7 +11,7 @@ use Rattle.model.specs.declared.Verdict.{Verdict}
 use Rattle.model.specs.Model.{seconds, noJob, entries, jobsOf, periodsOf, orElse}
 use Rattle.model.proofs.Verdicts.{sound-passes, refused-stays}
 use Rattle.model.proofs.Validity.{job-valid-at}
-use Rattle.score.specs.Scoring.{judgePeriod, firstUnpermitted}
+use Rattle.score.specs.Judging.{judgePeriod, firstUnpermitted}
 use Rattle.score.proofs.Permission.{one-judged, all-judged, period-allowed}
 use native.Mathlib.Omega.{arith}
 use borrow.Author.Needs.{needs}

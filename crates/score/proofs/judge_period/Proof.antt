@@ -4,7 +4,7 @@ use mathlib.Core.Path.{sym, _∙_}
 use borrow.Author.Needs.{needs}
 use borrow.Author.Tests.{not-true, not-false}
 use Rattle.model.specs.Model.{refuseIf}
-use Rattle.score.specs.Scoring.{judgePeriod}
+use Rattle.score.specs.Judging.{judgePeriod}
 use Rattle.score.proofs.judge_period.Statement.{statement}
 use Rattle.score.proofs.judge_period.Tie as tie
 
