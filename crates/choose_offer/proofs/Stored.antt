@@ -13,7 +13,8 @@ use Rattle.model.specs.declared.Seconds.{Seconds}
 use Rattle.model.specs.declared.PagesPerHour.{PagesPerHour}
 use Rattle.model.specs.Model.{seconds, pagesPerHour}
 use Rattle.choose_offer.specs.Found.{Found, nothing, found, pick}
-use Rattle.walk.specs.Steps.{needAt, periodsIn}
+use Rattle.step.specs.Step.{needAt}
+use Rattle.walk.specs.Steps.{periodsIn}
 use Rattle.choose_offer.specs.Steps.{noPlan, foundIn, Sizes, Keeps, Offers}
 use Rattle.choose_offer.proofs.Updates.{pick-over, pick-first, pick-less-loss, pick-less-need, pick-more-loss, pick-no-less}
 

@@ -9,7 +9,8 @@ use lib.ListN.{getD}
 use Rattle.model.specs.declared.Seconds.{Seconds}
 use Rattle.model.specs.declared.PagesPerHour.{PagesPerHour}
 use Rattle.choose_offer.specs.Found.{Found, pick}
-use Rattle.walk.specs.Steps.{needAt, Unreached, ReadyForCut, periodsIn}
+use Rattle.step.specs.Step.{needAt}
+use Rattle.walk.specs.Steps.{Unreached, ReadyForCut, periodsIn}
 use Rattle.choose_offer.specs.Steps.{noPlan, foundIn, WinsNothing}
 use Rattle.walk.proofs.Walk.{Keeps}
 use Rattle.walk.proofs.Cuts.{floors-cut, reach-cut}

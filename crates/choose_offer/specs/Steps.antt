@@ -8,7 +8,8 @@ use lib.ListN.{length, getD, take}
 use lib.Dec.{eqb}
 use Rattle.model.specs.declared.Seconds.{Seconds}
 use Rattle.model.specs.declared.PagesPerHour.{PagesPerHour}
-use Rattle.walk.specs.Steps.{needAt, periodsIn, ChangesNothing}
+use Rattle.step.specs.Step.{needAt}
+use Rattle.walk.specs.Steps.{periodsIn, ChangesNothing}
 use Rattle.choose_offer.specs.Found.{Found, nothing, found, pick}
 
 -- No plan: more than any loss.

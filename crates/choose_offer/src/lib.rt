@@ -7,7 +7,8 @@ use model::Seconds;
 ghost use mathlib.Core.Path.{_≡_};
 ghost use mathlib.Core.Bool.{false};
 ghost use Prim.Native.Nat.{_<_};
-ghost use Rattle.walk.specs.Steps.{NeedFits, ReadyForCut};
+ghost use Rattle.step.specs.Step.{NeedFits};
+ghost use Rattle.walk.specs.Steps.{ReadyForCut};
 ghost use Rattle.choose_offer.specs.Steps.{noPlan, Sizes, Keeps, Offers, WinsNothing};
 
 // Where the best plan has its need and its loss, behind eight periods.
@@ -35,7 +36,7 @@ pub fn may_win(
     requires { ⌜ floor < noPlan ⌝ }
     ensures { λ r. ⌜ (r ≡ false → WinsNothing (now (seconds .entry)) (now (rates .entry)) i n budget t written floor (now (best .entry))) ⌝ }
 {
-    let need_floor = walk::need_of(written, t).0 + rates[8 + i];
+    let need_floor = step::need_of(written, t).0 + rates[8 + i];
     if budget.0 < need_floor {
         return false;
     }
@@ -62,7 +63,7 @@ pub fn offer(
     requires { ⌜ Sizes n (now periods) (now best) ⌝ }
     ensures { λ _. ⌜ Offers n budget t written lost (now (periods .entry)) (now (best .entry)) (now (best .exit)) ⌝ }
 {
-    let need = walk::need_of(written, t);
+    let need = step::need_of(written, t);
     if budget.0 < need.0 {
         return;
     }

@@ -12,17 +12,20 @@ use Rattle.model.specs.declared.Seconds.{Seconds}
 use Rattle.model.specs.declared.PagesPerHour.{PagesPerHour}
 use Rattle.model.specs.declared.Job.{Job}
 use Rattle.model.specs.Model.{seconds, pagesPerHour, jobLoss}
+use Rattle.model.specs.Most.{mostNeed}
+use Rattle.step.specs.Step.{carried, needAt}
+use Rattle.step.proofs.Fits.{need-to}
 use Rattle.walk.specs.Walk.{needFloor, node, next, walkBy, walkDown, walkDownFrom}
 use Rattle.choose_walk.specs.Least.{none, least, lessNeed}
 use Rattle.walk.specs.Arrays.{Held}
-use Rattle.walk.specs.Steps.{needAt, Unreached, ReadyForCut}
+use Rattle.walk.specs.Steps.{Unreached, ReadyForCut}
 use Rattle.choose_walk.specs.Steps.{ReadyForNeed, noNeed, leastIn, Lessens, LessensNothing}
 use Rattle.model.proofs.Rounding.{multiple-is, split-product}
 use Rattle.walk.proofs.Floors.{multiple-above}
 use Rattle.walk.proofs.Falling.{down-lists}
 use Rattle.walk.proofs.Walk.{Keeps, walk-cut}
 use Rattle.walk.proofs.Loops.{down-opens, down-takes, down-ends}
-use Rattle.walk.proofs.Held.{held-open, held-none, held-next, held-valid, need-to}
+use Rattle.walk.proofs.Held.{held-open, held-none, held-next, held-valid}
 use Rattle.walk.proofs.Cuts.{need-floor-is, unreached, ready-need, need-floor-to, next-ready, next-written}
 
 -- a need that is one, and one that is none
@@ -35,7 +38,7 @@ unfolding leastIn
 no-least q e = rw (eq-eqb (q .0) noNeed e)
 
 -- the smaller of two is what the update makes of them
-less-need : (q l : ℕ) (ts : List Seconds) (had r : PagesPerHour) → q ≤ 1887379200 → r .0 ≡ min q (had .0) → leastIn r ≡ lessNeed q l ts (leastIn had)
+less-need : (q l : ℕ) (ts : List Seconds) (had r : PagesPerHour) → q ≤ mostNeed → r .0 ≡ min q (had .0) → leastIn r ≡ lessNeed q l ts (leastIn had)
 unfolding lessNeed
 less-need q l ts had r small e = go (ℕ-discrete (had .0) noNeed)
   where
@@ -113,17 +116,17 @@ module _ {spans runs rates : List ℕ} {i n : ℕ} {step : Seconds} {written : �
       multiple-above (step .0) t (omega arith) (d .down .multiple)
 
   -- the node below this multiple
-  pub down-next : ReadyForNeed spans runs rates (i + 1) n (seconds t) (written * (t / step .0) + getD runs i 0)
+  pub down-next : ReadyForNeed spans runs rates (i + 1) n (seconds t) (carried written step (seconds t) (getD runs i 0))
   down-next = record { weights = d .ready .weights; ready = next-ready (d .ready .ready) (d .less) t (d .down .multiple) (d .above) (d .down .below) zero-le }
 
-  pub down-cut : ReadyForCut spans rates (i + 1) n (seconds t) (written * (t / step .0) + getD runs i 0)
+  pub down-cut : ReadyForCut spans rates (i + 1) n (seconds t) (carried written step (seconds t) (getD runs i 0))
   down-cut = record { runs = runs; weights = d .ready .weights; ready = next-ready (d .ready .ready) (d .less) t (d .down .multiple) (d .above) (d .down .below) zero-le }
 
-  pub down-written : written * (t / step .0) + getD runs i 0 ≤ 1887379200
+  pub down-written : carried written step (seconds t) (getD runs i 0) ≤ mostNeed
   down-written = next-written (d .ready .ready) (d .less) t (d .down .multiple) (d .above) (d .down .below)
 
   -- one turn: what the walk below this multiple makes of what is had
-  pub down-turn : (m : PagesPerHour) → Lessens spans runs rates (i + 1) n (seconds t) (written * (t / step .0) + getD runs i 0) now m → Down spans runs rates i n step written had m (t - step .0)
+  pub down-turn : (m : PagesPerHour) → Lessens spans runs rates (i + 1) n (seconds t) (carried written step (seconds t) (getD runs i 0)) now m → Down spans runs rates i n step written had m (t - step .0)
   down-turn m lessens =
       let below = d .down .below in
       record { multiple = multiple; below = omega arith; is = turned }
@@ -149,5 +152,5 @@ module _ {spans runs rates : List ℕ} {i n : ℕ} {step : Seconds} {written : �
           ∙ d .down .is weights j js lost ts h
 
   -- a walk that would leave what is had is not made
-  pub down-skip : LessensNothing spans rates (i + 1) n (seconds t) (written * (t / step .0) + getD runs i 0) now → Down spans runs rates i n step written had now (t - step .0)
+  pub down-skip : LessensNothing spans rates (i + 1) n (seconds t) (carried written step (seconds t) (getD runs i 0)) now → Down spans runs rates i n step written had now (t - step .0)
   down-skip nothing = down-turn now (λ weights js lost ts h. sym (nothing runs weights js lost ts h))

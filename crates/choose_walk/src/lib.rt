@@ -44,7 +44,7 @@ pub fn find_best(
     let mut t = first * step.0;
     while t <= hi {
         let here = lost
-            + walk::job_loss(
+            + step::job_loss(
                 stiffnesses[i],
                 PagesPerHour(rates[i]),
                 pages[8 + i],
@@ -109,7 +109,7 @@ pub fn least_need(
     ensures { λ r. ⌜ Lessens (now (seconds .entry)) (now (pages .entry)) (now (rates .entry)) i n step written had r ⌝ }
 {
     if i == n {
-        return smaller(walk::need_of(written, step), had);
+        return smaller(step::need_of(written, step), had);
     }
     let lo = seconds[i];
     let own = pages[i] as u64;
@@ -139,7 +139,7 @@ fn may_lessen(
     requires { ⌜ ReadyForCut (now seconds) (now rates) i n t written ⌝ }
     ensures { λ r. ⌜ (r ≡ false → LessensNothing (now (seconds .entry)) (now (rates .entry)) i n t written had) ⌝ }
 {
-    let floor = walk::need_of(written, t).0 + rates[8 + i];
+    let floor = step::need_of(written, t).0 + rates[8 + i];
     if had.0 <= floor {
         return false;
     }

@@ -7,26 +7,20 @@ use mathlib.Core.Path.{_≡_, _∙_, ap}
 use Rattle.model.specs.declared.Seconds.{Seconds}
 use Rattle.model.specs.declared.Job.{Job}
 use Rattle.model.specs.Model.{load, cost, roundUp, rate, jobLoss}
+use Rattle.model.specs.Most.{mostPages, mostRate, mostLoss}
 use Rattle.model.specs.Valid.{ValidJob}
 use Rattle.model.proofs.Rounding.{round-up-le}
 
--- the most that one job writes in an hour, and the most that it loses
-abbrev pub mostRate : ℕ
-mostRate = 235922400
-
-abbrev pub mostLoss : ℕ
-mostLoss = 32 * mostRate ^ 2
-
-pub load-bound : (j : Job) → ValidJob j → load j ≤ 65534
+pub load-bound : (j : Job) → ValidJob j → load j ≤ mostPages
 unfolding load
 load-bound j v = omega arith
 
-pub cost-bound : (j : Job) → ValidJob j → cost j ≤ 65534
+pub cost-bound : (j : Job) → ValidJob j → cost j ≤ mostPages
 unfolding cost
 cost-bound j v = omega arith
 
 -- so many pages once in t seconds
-pub hourly-bound : (pages t : ℕ) → pages ≤ 65534 → 3600 * pages / t ≤ mostRate
+pub hourly-bound : (pages t : ℕ) → pages ≤ mostPages → 3600 * pages / t ≤ mostRate
 hourly-bound pages t few = omega (arith, div-le-self (3600 * pages) t)
 
 pub rate-bound : (j : Job) (t : ℕ) → ValidJob j → 3600 * cost j / t ≤ mostRate
@@ -43,7 +37,7 @@ pub eight-losses : (l k : ℕ) → l ≤ mostLoss * k → k ≤ 8 → l < 2 ^ 64
 eight-losses l k h few = omega arith
 
 -- k jobs that write at most 65,534 pages each in every second of `span` need at most k times the most
-pub need-bound : (pages span k : ℕ) → 1 ≤ span → pages ≤ 65534 * span * k → roundUp (3600 * pages) span ≤ mostRate * k
+pub need-bound : (pages span k : ℕ) → 1 ≤ span → pages ≤ mostPages * span * k → roundUp (3600 * pages) span ≤ mostRate * k
 need-bound pages span k pos h = round-up-le (3600 * pages) (mostRate * k) pos .1 (omega arith)
 
 -- a rate falls as the period grows

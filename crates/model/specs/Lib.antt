@@ -1,2 +1,3 @@
 pub mod Model
+pub mod Most
 pub mod Valid

@@ -11,13 +11,14 @@ use Rattle.model.specs.declared.Seconds.{Seconds}
 use Rattle.model.specs.declared.PagesPerHour.{PagesPerHour}
 use Rattle.model.specs.declared.Job.{Job}
 use Rattle.model.specs.Model.{seconds, load, Permitted, lastOf, pagesIn, need, FitsBudget, loss, Best}
+use Rattle.model.specs.Most.{mostPages}
 use Rattle.model.specs.Valid.{ValidJobs}
 use Rattle.model.proofs.Bounds.{load-bound, need-bound}
 use Rattle.walk.specs.Walk.{walk, start}
 use Rattle.choose_offer.specs.Found.{Found, nothing, found, pick}
 use Rattle.choose_walk.proofs.Fold.{BestOrNone, walk-best}
 use Rattle.choose.proofs.OneOutcome.{one-best}
-use Rattle.walk.proofs.Pages.{last-positive}
+use Rattle.step.proofs.Pages.{last-positive}
 use Rattle.table.specs.Table.{TableOf}
 
 module _ {js : List Job} {ts : List Seconds} where
@@ -64,12 +65,12 @@ some-best js b us v h fits = go (walk (pick (b .0)) js start nothing) (walk-best
     go nothing none-fits = absurd (none-fits us h fits)
     go (found q l ts) k = (ts, k .best)
 
-pages-bound : (span : Seconds) (js : List Job) (ts : List Seconds) → ValidJobs js → pagesIn span js ts ≤ 65534 * span .0 * length js
+pages-bound : (span : Seconds) (js : List Job) (ts : List Seconds) → ValidJobs js → pagesIn span js ts ≤ mostPages * span .0 * length js
 unfolding pagesIn
 pages-bound span [] ts v = omega arith
 pages-bound span (j ∷ js) [] v = omega arith
 pages-bound span (j ∷ js) (t ∷ ts) v =
-    let here : load j * (span .0 / t .0) ≤ 65534 * span .0 = mul-le-mul (load-bound j (v .0)) (div-le-self (span .0) (t .0)) in
+    let here : load j * (span .0 / t .0) ≤ mostPages * span .0 = mul-le-mul (load-bound j (v .0)) (div-le-self (span .0) (t .0)) in
     omega (arith, pages-bound span js ts (v .1))
 
 -- Every permitted list of at most eight jobs fits some 32-bit budget.

@@ -1,29 +1,23 @@
 -- The turns of the loop over rows and of the loop over a row's periods: what is known before each, and what each way out of it says.
 -- Assumes nothing.
 use mathlib.Core.Path.{_≡_, refl, sym, _∙_, ap, ap₂, subst}
-use mathlib.Core.List.{List, []}
-use mathlib.Core.Logic.{_↔_, ⊎-elim}
+use mathlib.Core.List.{List}
+use mathlib.Core.Logic.{⊎-elim}
 use mathlib.Core.Bool.{Bool, true, false, not, cond, _&&_}
-use Prim.Native.Nat.{ℕ, zero, suc, _+_, _*_, _-_, _/_, _^_, _≤_, _<_}
-use native.Mathlib.Nat.{sub-zero, zero-add, add-zero, add-assoc, not-suc-le-zero, le-trans, mul-le-mul-right, eq-or-lt-of-le, le-of-suc-le-suc}
+use Prim.Native.Nat.{ℕ, zero, suc, _+_, _^_, _≤_, _<_}
+use native.Mathlib.Nat.{not-suc-le-zero, eq-or-lt-of-le, le-of-suc-le-suc}
 use native.Mathlib.Omega.{arith}
 use lib.ListN.{getD}
 use lib.Dec.{ltb}
 use borrow.Author.Tests.{not-true, not-false, ltb-true, lt-ltb, ne-eqb, eqb-false}
 use Rattle.model.specs.declared.Seconds.{Seconds}
 use Rattle.model.specs.declared.PagesPerHour.{PagesPerHour}
-use Rattle.model.specs.declared.Job.{Job}
 use Rattle.model.specs.declared.Profile.{Profile}
-use Rattle.model.specs.Model.{seconds, pagesPerHour, noJob, entries, jobsOf, periodsOf, load, Allowed, allows, PermittedAfter, Permitted, lastOf, roundUp, need, jobLoss, loss}
+use Rattle.model.specs.Model.{seconds, pagesPerHour, noJob, jobsOf, periodsOf, load, allows, Permitted, need, jobLoss, loss}
 use Rattle.model.specs.Valid.{Valid}
 use Rattle.model.proofs.Allowing.{both-true, allowed, allowed-back}
-use Rattle.model.proofs.Bounds.{eight-losses}
-use Rattle.model.proofs.Entries.{entries-step, entries-end}
-use Rattle.model.proofs.Validity.{job-valid-at}
-use Rattle.walk.specs.Walk.{pagesAfter, needAfter, node, Bounded}
-use Rattle.walk.specs.Steps.{NeedFits, needAt as needFrom}
-use Rattle.walk.proofs.Bounds.{start-bounded, next-bounded}
-use Rattle.walk.proofs.Pages.{need-is as need-after}
+use Rattle.step.specs.Step.{carried, needAt as needFrom}
+use Rattle.step.proofs.Along.{Along, along-starts, along-allows, along-next, along-loss-fits, along-beyond, along-permitted, along-need, along-lost}
 use Rattle.table_row.specs.declared.TableRow.{TableRow}
 use Rattle.table_row.specs.Table.{rowsIn, startAt, periodsAt, needAt, lossAt}
 use Rattle.table_row.specs.Cut.{rowAt, follows}
@@ -40,124 +34,32 @@ pub record RowsLeft (p : Profile) (bytes : List ℕ) (start : PagesPerHour) (los
 pub first-rows : (p : Profile) (bytes : List ℕ) (start : PagesPerHour) (loss : ℕ) → RowsLeft p bytes start loss 0
 first-rows p bytes start loss = record { upto = omega arith; good = λ j h. absurd (not-suc-le-zero h); start-is = λ j e. absurd (omega arith); loss-is = λ j e. absurd (omega arith) }
 
--- the jobs and the periods from place i on
-abbrev jobsFrom : Profile → ℕ → List Job
-jobsFrom p i = entries noJob (p .jobs) i (p .n - i)
-
-abbrev periodsFrom : Profile → List Seconds → ℕ → List Seconds
-periodsFrom p ts i = entries (seconds 0) ts i (p .n - i)
-
--- before a turn of the loop over a row's periods: the places before the i-th are right, so the periods are permitted exactly where
--- those from the i-th on are; the pages, the last period and the loss are those of these, after what is known of the i before
+-- before a turn of the loop over a row's periods: what the jobs before the i-th place have written and lost is carried along, and
+-- the places before it that are beyond the jobs hold zeros
 pub record PlacesLeft (p : Profile) (ts : List Seconds) (before : Seconds) (written lost i : ℕ) : Type 0 where
-  pub upto : i ≤ 8
-  pub from : 1 ≤ before .0
-  pub to : before .0 ≤ 3600
-  pub bounded : Bounded i (node before written lost [])
+  pub along : Along p ts i before written lost
   pub zeros : (j : ℕ) → p .n ≤ j → j < i → getD ts j (seconds 0) .0 ≡ 0
-  pub permitted : Permitted (jobsOf p) (periodsOf p ts) ↔ PermittedAfter before (jobsFrom p i) (periodsFrom p ts i)
-  pub pages : pagesAfter 0 (seconds 1) (jobsOf p) (periodsOf p ts) ≡ pagesAfter written before (jobsFrom p i) (periodsFrom p ts i)
-  pub last : lastOf (seconds 1) (periodsOf p ts) ≡ lastOf before (periodsFrom p ts i)
-  pub loss-is : loss (jobsOf p) (periodsOf p ts) ≡ lost + loss (jobsFrom p i) (periodsFrom p ts i)
-
--- what is permitted among other lists that are the same
-same-permitted : {A B : Type 0} → A ≡ B → A ↔ B
-same-permitted e = (subst (λ (T : Type 0). T) e, subst (λ (T : Type 0). T) (sym e))
 
 pub first-places : (p : Profile) (ts : List Seconds) → PlacesLeft p ts (seconds 1) 0 0 0
-first-places p ts =
-    let whole = sym (sub-zero (p .n)) in
-    record {
-      upto = omega arith;
-      from = omega arith;
-      to = omega arith;
-      bounded = start-bounded;
-      zeros = λ j past h. absurd (not-suc-le-zero h);
-      permitted = same-permitted (ap (λ (m : ℕ). Permitted (entries noJob (p .jobs) 0 m) (entries (seconds 0) ts 0 m)) whole);
-      pages = ap (λ (m : ℕ). pagesAfter 0 (seconds 1) (entries noJob (p .jobs) 0 m) (entries (seconds 0) ts 0 m)) whole;
-      last = ap (λ (m : ℕ). lastOf (seconds 1) (entries (seconds 0) ts 0 m)) whole;
-      loss-is = ap (λ (m : ℕ). loss (entries noJob (p .jobs) 0 m) (entries (seconds 0) ts 0 m)) whole ∙ sym (zero-add _);
-    }
+first-places p ts = record { along = along-starts p ts; zeros = λ j past h. absurd (not-suc-le-zero h) }
 
--- the place at hand
-module _ {p : Profile} {ts : List Seconds} {before : Seconds} {written lost i : ℕ} (v : Valid p) (l : PlacesLeft p ts before written lost i) where
-  -- pages in a period are few enough to be carried on
-  pub pages-fit : NeedFits written before
-  pages-fit =
-      let few : 65534 * i ≤ 524272 = omega (arith, l .upto) in
-      record { from = l .from; to = l .to; written-to = le-trans (l .bounded .pages-to) (mul-le-mul-right (before .0) few) }
+-- a job's place
+module _ {p : Profile} {ts : List Seconds} {before : Seconds} {written lost i : ℕ} (v : Valid p) (l : PlacesLeft p ts before written lost i) (less : i < p .n) where
+  pub place-off : allows (getD (p .jobs) i noJob) before (getD ts i (seconds 0)) ≡ false → Permitted (jobsOf p) (periodsOf p ts) → ⊥
+  place-off e h = eqb-false 0 1 refl (ap (λ (t : Bool). cond t 1 0) (sym e ∙ allowed-back _ before _ (along-allows (l .along) v less h)))
 
-  -- a job's place
-  module _ (less : i < p .n) where
-    one-more : PermittedAfter before (jobsFrom p i) (periodsFrom p ts i) ≡ (Allowed (getD (p .jobs) i noJob) before (getD ts i (seconds 0)) × PermittedAfter (getD ts i (seconds 0)) (jobsFrom p (i + 1)) (periodsFrom p ts (i + 1)))
-    one-more = ap₂ (PermittedAfter before) (entries-step noJob (p .jobs) i (p .n) less) (entries-step (seconds 0) ts i (p .n) less)
+  pub next-place : allows (getD (p .jobs) i noJob) before (getD ts i (seconds 0)) ≡ true → PlacesLeft p ts (getD ts i (seconds 0)) (carried written before (getD ts i (seconds 0)) (load (getD (p .jobs) i noJob))) (lost + jobLoss (getD (p .jobs) i noJob) (getD ts i (seconds 0))) (i + 1)
+  next-place e = record { along = along-next (l .along) v less (allowed _ before _ e); zeros = λ k past h. absurd (omega arith) }
 
-    pub place-off : allows (getD (p .jobs) i noJob) before (getD ts i (seconds 0)) ≡ false → Permitted (jobsOf p) (periodsOf p ts) → ⊥
-    place-off e h =
-        let a = same-permitted one-more .0 (l .permitted .0 h) .0 in
-        eqb-false 0 1 refl (ap (λ (t : Bool). cond t 1 0) (sym e ∙ allowed-back _ before _ a))
-
-    pub next-place : allows (getD (p .jobs) i noJob) before (getD ts i (seconds 0)) ≡ true → PlacesLeft p ts (getD ts i (seconds 0)) (written * (getD ts i (seconds 0) .0 / before .0) + load (getD (p .jobs) i noJob)) (lost + jobLoss (getD (p .jobs) i noJob) (getD ts i (seconds 0))) (i + 1)
-    unfolding pagesAfter lastOf loss
-    next-place e =
-        let j = getD (p .jobs) i noJob in
-        let t = getD ts i (seconds 0) in
-        let a = allowed j before t e in
-        let valid = job-valid-at p i v less in
-        let b = next-bounded i j (node before written lost []) t valid a (l .bounded) in
-        let js = entries-step noJob (p .jobs) i (p .n) less in
-        let us = entries-step (seconds 0) ts i (p .n) less in
-        record {
-          upto = omega (arith, v .n-to);
-          from = omega (arith, a .above, valid .lo-from);
-          to = omega (arith, a .below, valid .hi-to);
-          bounded = record { pages-to = b .pages-to; lost-to = b .lost-to };
-          zeros = λ k past h. absurd (omega arith);
-          permitted = (λ h. same-permitted one-more .0 (l .permitted .0 h) .1, λ h. l .permitted .1 (same-permitted one-more .1 (a, h)));
-          pages = l .pages ∙ ap₂ (pagesAfter written before) js us;
-          last = l .last ∙ ap (lastOf before) us;
-          loss-is = l .loss-is ∙ ap₂ (λ (ks : List Job) (vs : List Seconds). lost + loss ks vs) js us ∙ sym (add-assoc lost (jobLoss j t) _);
-        }
-
-    pub loss-fits : allows (getD (p .jobs) i noJob) before (getD ts i (seconds 0)) ≡ true → lost + jobLoss (getD (p .jobs) i noJob) (getD ts i (seconds 0)) < 2 ^ 64
-    loss-fits e = eight-losses _ (i + 1) (next-place e .bounded .lost-to) (omega (arith, v .n-to))
+  pub loss-fits : allows (getD (p .jobs) i noJob) before (getD ts i (seconds 0)) ≡ true → lost + jobLoss (getD (p .jobs) i noJob) (getD ts i (seconds 0)) < 2 ^ 64
+  loss-fits e = along-loss-fits (l .along) v less (allowed _ before _ e)
 
 -- a place beyond the jobs
-module _ {p : Profile} {ts : List Seconds} {before : Seconds} {written lost i : ℕ} (l : PlacesLeft p ts before written lost i) (past : p .n ≤ i) where
-  no-job : jobsFrom p i ≡ []
-  no-job = entries-end noJob (p .jobs) i (p .n) past
-
-  no-period : periodsFrom p ts i ≡ []
-  no-period = entries-end (seconds 0) ts i (p .n) past
-
-  pub next-zero : i < 8 → getD ts i (seconds 0) .0 ≡ 0 → PlacesLeft p ts before written lost (i + 1)
-  next-zero less e =
-      let js : jobsFrom p i ≡ jobsFrom p (i + 1) = no-job ∙ sym (entries-end noJob (p .jobs) (i + 1) (p .n) (omega arith)) in
-      let us : periodsFrom p ts i ≡ periodsFrom p ts (i + 1) = no-period ∙ sym (entries-end (seconds 0) ts (i + 1) (p .n) (omega arith)) in
-      let left = same-permitted (ap₂ (PermittedAfter before) js us) in
-      let few : 65534 * i ≤ 65534 * (i + 1) = omega arith in
-      record {
-        upto = omega arith;
-        from = l .from;
-        to = l .to;
-        bounded = record { pages-to = le-trans (l .bounded .pages-to) (mul-le-mul-right (before .0) few); lost-to = omega (arith, l .bounded .lost-to) };
-        zeros = λ j beyond h. ⊎-elim (λ (same : j ≡ i). ap (λ (k : ℕ). getD ts k (seconds 0) .0) same ∙ e) (λ (h′ : j < i). l .zeros j beyond h′) (eq-or-lt-of-le (le-of-suc-le-suc (omega arith)));
-        permitted = (λ h. left .0 (l .permitted .0 h), λ h. l .permitted .1 (left .1 h));
-        pages = l .pages ∙ ap₂ (pagesAfter written before) js us;
-        last = l .last ∙ ap (lastOf before) us;
-        loss-is = l .loss-is ∙ ap₂ (λ (ks : List Job) (vs : List Seconds). lost + loss ks vs) js us;
-      }
-
-  all-permitted : Permitted (jobsOf p) (periodsOf p ts)
-  all-permitted = l .permitted .1 (rw (no-job, no-period) tt)
-
-  all-placed : Valid p → pagesPerHour (needFrom written before) ≡ need (jobsOf p) (periodsOf p ts)
-  unfolding pagesAfter lastOf needAfter needFrom
-  all-placed v = sym (need-after (jobsOf p) (periodsOf p ts) (v .jobs) all-permitted ∙ ap₂ (λ (w : ℕ) (t : Seconds). pagesPerHour (roundUp (3600 * w) (t .0))) (l .pages ∙ ap₂ (pagesAfter written before) no-job no-period) (l .last ∙ ap (lastOf before) no-period))
-
-  all-lost : lost ≡ loss (jobsOf p) (periodsOf p ts)
-  unfolding loss
-  all-lost = sym (l .loss-is ∙ ap₂ (λ (ks : List Job) (us : List Seconds). lost + loss ks us) no-job no-period ∙ add-zero lost)
+pub next-zero : {p : Profile} {ts : List Seconds} {before : Seconds} {written lost i : ℕ} → PlacesLeft p ts before written lost i → p .n ≤ i → i < 8 → getD ts i (seconds 0) .0 ≡ 0 → PlacesLeft p ts before written lost (i + 1)
+next-zero {ts = ts} {i = i} l past less e = record {
+  along = along-beyond (l .along) past less;
+  zeros = λ j beyond h. ⊎-elim (λ (same : j ≡ i). ap (λ (k : ℕ). getD ts k (seconds 0) .0) same ∙ e) (λ (h′ : j < i). l .zeros j beyond h′) (eq-or-lt-of-le (le-of-suc-le-suc (omega arith)));
+}
 
 -- what is known of row k once its places are found right
 pub record Scanned (p : Profile) (bytes : List ℕ) (k : ℕ) (row : TableRow) (needs : PagesPerHour) (lost : ℕ) : Type 0 where
@@ -172,11 +74,11 @@ scanned-row {p} {bytes} {k} {row} {i} v e l all =
     let past : p .n ≤ i = omega (arith, v .n-to) in
     let same = ap (λ (x : TableRow). x .periods) e in
     record {
-      permitted = subst (λ (ts : List Seconds). Permitted (jobsOf p) (periodsOf p ts)) same (all-permitted l past);
+      permitted = subst (λ (ts : List Seconds). Permitted (jobsOf p) (periodsOf p ts)) same (along-permitted (l .along) past);
       zeros = λ j beyond less. ap (λ (ts : List Seconds). getD ts j (seconds 0) .0) (sym same) ∙ l .zeros j beyond (omega arith);
       start-is = ap (λ (x : TableRow). x .start) e;
-      need-is = all-placed l past v ∙ ap (λ (ts : List Seconds). need (jobsOf p) (periodsOf p ts)) same;
-      loss-is = all-lost l past ∙ ap (λ (ts : List Seconds). loss (jobsOf p) (periodsOf p ts)) same;
+      need-is = along-need (l .along) past v ∙ ap (λ (ts : List Seconds). need (jobsOf p) (periodsOf p ts)) same;
+      loss-is = along-lost (l .along) past ∙ ap (λ (ts : List Seconds). loss (jobsOf p) (periodsOf p ts)) same;
     }
 
 -- the rule of the row before

@@ -46,12 +46,12 @@ pub fn first_bad_row(p: Profile, table: &[u8]) -> usize
                 break 'rows k + 1;
             }
             let fastest = rates[i];
-            written = table_row::written_with(j, written, before, t);
-            lost += table_row::job_loss(j, PagesPerHour(fastest), t);
+            written = step::written_with(j, written, before, t);
+            lost += step::loss_with(j, PagesPerHour(fastest), t);
             before = t;
             i += 1;
         }
-        if walk::need_of(written, before).0 != start.0 {
+        if step::need_of(written, before).0 != start.0 {
             break 'rows k + 1;
         }
         if !table_row::may_follow(k, start_before, loss_before, start, lost) {

@@ -12,7 +12,8 @@ use Rattle.model.specs.declared.PagesPerHour.{PagesPerHour}
 use Rattle.model.specs.declared.Job.{Job}
 use Rattle.model.specs.Model.{pagesPerHour, Permitted, need, loss, NotAfter, NoWorse}
 use Rattle.model.specs.Valid.{ValidJobs}
-use Rattle.model.proofs.Bounds.{mostLoss, job-loss-bound}
+use Rattle.model.specs.Most.{mostLoss}
+use Rattle.model.proofs.Bounds.{job-loss-bound}
 use Rattle.walk.specs.Walk.{start, walk}
 use Rattle.table_stairs.specs.Stairs.{Stair, Stairs, noBound, noStairs, enter}
 use Rattle.table_climb.specs.Next.{Answer, NextAnswers, AnswersUnder}

@@ -110,7 +110,7 @@ fn find_stairs(
     let mut t = first * step.0;
     while t <= hi {
         let here = lost
-            + walk::job_loss(
+            + step::job_loss(
                 stiffnesses[i],
                 PagesPerHour(rates[i]),
                 pages[8 + i],

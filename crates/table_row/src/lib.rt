@@ -2,16 +2,12 @@
 //
 // specs/Table.antt says what a table's rows and fields are, specs/Cut.antt how a row is held and which may follow
 // another. These functions serve other crates of the planner, and their callers meet what they require. Nothing is assumed.
-use model::Job;
 use model::PagesPerHour;
 use model::Seconds;
 ghost use mathlib.Core.Path.{_≡_};
-ghost use Prim.Native.Nat.{_+_, _*_, _/_, _^_, _≤_, _<_};
+ghost use Prim.Native.Nat.{_+_, _*_, _^_, _<_};
 ghost use Rattle.codec.specs.Packing.{unpack};
 ghost use Rattle.codec.specs.Rows.{tableWidths};
-ghost use Rattle.model.specs.Model.{load, cost, rate, jobLoss};
-ghost use Rattle.model.specs.Valid.{ValidJob};
-ghost use Rattle.walk.specs.Steps.{NeedFits};
 ghost use Rattle.table_row.specs.Table.{rowsIn, startAt};
 ghost use Rattle.table_row.specs.Cut.{rowOf, rowAt, follows};
 
@@ -71,30 +67,6 @@ pub fn cut_row(high: u64, low: u64) -> TableRow
             Seconds(t8 as u32),
         ],
     }
-}
-
-// The pages that jobs write in t seconds, this job with them, where those before it have `written` so many in `before`.
-pub fn written_with(j: Job, written: u64, before: Seconds, t: Seconds) -> u64
-    requires { ⌜ ValidJob j × NeedFits written before × (t .0 ≤ 3600) ⌝ }
-    ensures { λ r. ⌜ r ≡ written * (t .0 / before .0) + load j ⌝ }
-{
-    written * ((t.0 / before.0) as u64) + (run_pages(j) as u64)
-}
-
-// What a job loses at a period, against its rate at the shortest.
-pub fn job_loss(j: Job, fastest: PagesPerHour, t: Seconds) -> u64
-    requires { ⌜ ValidJob j × (j .lo .0 ≤ t .0) × (fastest ≡ rate j (j .lo)) ⌝ }
-    ensures { λ r. ⌜ r ≡ jobLoss j t ⌝ }
-{
-    walk::job_loss(j.stiffness, fastest, run_pages(j), t)
-}
-
-// The pages of one run, as need counts them and as loss counts them.
-fn run_pages(j: Job) -> u32
-    requires { ⌜ ValidJob j ⌝ }
-    ensures { λ r. ⌜ (r ≡ load j) × (r ≡ cost j) ⌝ }
-{
-    j.data + j.metadata
 }
 
 // Whether a row may follow the one before it: the first follows none.

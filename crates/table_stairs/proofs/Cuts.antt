@@ -9,7 +9,8 @@ use native.Mathlib.Nat.{le-refl}
 use lib.ListN.{getD}
 use Rattle.model.specs.declared.Seconds.{Seconds}
 use Rattle.model.specs.declared.PagesPerHour.{PagesPerHour}
-use Rattle.walk.specs.Steps.{needAt, Unreached, ReadyForCut}
+use Rattle.step.specs.Step.{needAt}
+use Rattle.walk.specs.Steps.{Unreached, ReadyForCut}
 use Rattle.walk.proofs.Cuts.{floors-cut, reach-cut}
 use Rattle.table_stairs.specs.Stairs.{enter}
 use Rattle.table_stairs.specs.Rows.{most, stairsOf, Covers, EntersNothing}

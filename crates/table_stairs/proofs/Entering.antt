@@ -10,7 +10,8 @@ use lib.ListN.{getD}
 use borrow.Author.Tests.{le-leb, lt-leb, lt-ltb, le-ltb}
 use Rattle.model.specs.declared.Seconds.{Seconds}
 use Rattle.model.specs.declared.PagesPerHour.{PagesPerHour}
-use Rattle.walk.specs.Steps.{needAt, periodsIn}
+use Rattle.step.specs.Step.{needAt}
+use Rattle.walk.specs.Steps.{periodsIn}
 use Rattle.table_stairs.specs.Stairs.{Stair, stair, covered, losingLess, needingLess, among, atMost, enter}
 use Rattle.table_stairs.specs.Rows.{most, needIn, lossIn, rowAt, rowsFrom, stairsOf, Rises, LosesLess, Covers, NeedsLess, Place, Standing, Puts, Enters}
 use Rattle.table_stairs.proofs.Updates.{enter-over, enter-bound, enter-covered, enter-new}

@@ -7,7 +7,8 @@ use Prim.Native.Nat.{ℕ, zero, suc, _+_, _*_, _-_, _/_, _%_, _^_, _≤_, _<_}
 use lib.ListN.{length, getD}
 use Rattle.model.specs.declared.Seconds.{Seconds}
 use Rattle.model.specs.declared.PagesPerHour.{PagesPerHour}
-use Rattle.walk.specs.Steps.{needAt, periodsIn, ChangesNothing}
+use Rattle.step.specs.Step.{needAt}
+use Rattle.walk.specs.Steps.{periodsIn, ChangesNothing}
 use Rattle.table_stairs.specs.Stairs.{Stair, stair, Stairs, atMost, enter}
 
 -- The greatest number of rows.

@@ -8,7 +8,8 @@ ghost use mathlib.Core.Path.{_≡_};
 ghost use mathlib.Core.Bool.{false};
 ghost use Prim.Native.Nat.{_≤_, _<_};
 ghost use lib.ListN.{length, getD};
-ghost use Rattle.walk.specs.Steps.{NeedFits, ReadyForCut};
+ghost use Rattle.step.specs.Step.{NeedFits};
+ghost use Rattle.walk.specs.Steps.{ReadyForCut};
 ghost use Rattle.table_stairs.specs.Stairs.{noBound};
 ghost use Rattle.table_stairs.specs.Rows.{highWord, lowWord, Periods, Fields, Rises, LosesLess, PlacesRise, PlacesLoseLess, Covers, NeedsLess, Moved, Stored, Place, Standing, Puts, Enters, EntersNothing};
 
@@ -50,7 +51,7 @@ pub fn may_enter(
     requires { ⌜ Rises (getD (now marks) 0 0) (now rows) ⌝ }
     ensures { λ r. ⌜ (r ≡ false → EntersNothing (now (seconds .entry)) (now (rates .entry)) i n budget t written floor (now (rows .entry)) (now (marks .entry))) ⌝ }
 {
-    let need_floor = walk::need_of(written, t).0 + rates[8 + i];
+    let need_floor = step::need_of(written, t).0 + rates[8 + i];
     if budget.0 < need_floor {
         return false;
     }
@@ -77,7 +78,7 @@ pub fn enter_plan(
     requires { ⌜ Standing n (now periods) (now rows) (now marks) ⌝ }
     ensures { λ _. ⌜ Enters n budget t written lost (now (periods .entry)) (now (rows .entry)) (now (marks .entry)) (now (rows .exit)) (now (marks .exit)) ⌝ }
 {
-    let need = walk::need_of(written, t);
+    let need = step::need_of(written, t);
     if budget.0 < need.0 {
         return;
     }

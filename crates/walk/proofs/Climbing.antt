@@ -10,11 +10,13 @@ use lib.ListN.{length, getD, take, set}
 use lib.Seq.{take-suc-set, take-set-le}
 use Rattle.model.specs.declared.Seconds.{Seconds}
 use Rattle.model.specs.declared.Job.{Job}
-use Rattle.model.proofs.Bounds.{mostLoss, job-loss-bound}
+use Rattle.model.specs.Most.{mostNeed, mostLoss}
+use Rattle.model.proofs.Bounds.{job-loss-bound}
 use Rattle.model.specs.Model.{seconds, jobLoss}
+use Rattle.step.specs.Step.{carried, needAt}
 use Rattle.walk.specs.Walk.{node, next, walkBy, walk, walkFrom}
 use Rattle.walk.specs.Arrays.{HoldsJob, Held}
-use Rattle.walk.specs.Steps.{lossAt, LossFits, needAt, Repeats, Later, Ready, ReadyForCut, IsLossFloor, periodsIn, ChangesNothing, Walked}
+use Rattle.walk.specs.Steps.{lossHeld, LossHeldFits, Repeats, Later, Ready, ReadyForCut, IsLossFloor, periodsIn, ChangesNothing, Walked}
 use Rattle.model.proofs.Rounding.{round-up-above, round-up-some}
 use Rattle.walk.proofs.Bounds.{loss-floor-bound}
 use Rattle.walk.proofs.Chains.{multiples-lists}
@@ -96,10 +98,10 @@ pub record Turn {A : Type 0} (Good : A → Type 0) (f : ℕ → ℕ → List Sec
 
 module _ {A : Type 0} {Good : A → Type 0} {f : ℕ → ℕ → List Seconds → A → A} {spans runs rates weights : List ℕ} {i n : ℕ} {step : Seconds} {written lost : ℕ} {ps₀ ps : List ℕ} {acc₀ acc : A} {t : ℕ} (u : Turn Good f spans runs rates weights i n step written lost ps₀ acc₀ ps acc t) where
   -- the loss so far with this job's
-  pub up-loss-fits : LossFits (getD weights i 0) (getD rates i 0) (getD runs (8 + i) 0) t
+  pub up-loss-fits : LossHeldFits runs rates weights i (seconds t)
   up-loss-fits = let o = held-open (u .ready .js) (u .less) (u .ready .held) in job-loss-fits (o .holds) (seconds t) (rw (o .holds .shortest) at (u .up .above))
 
-  loss-here : (j : Job) {js : List Job} → HoldsJob spans runs rates weights i j js → {x : ℕ} → x ≡ lossAt (getD weights i 0) (getD rates i 0) (getD runs (8 + i) 0) t → x ≡ jobLoss j (seconds t)
+  loss-here : (j : Job) {js : List Job} → HoldsJob spans runs rates weights i j js → {x : ℕ} → x ≡ lossHeld runs rates weights i (seconds t) → x ≡ jobLoss j (seconds t)
   loss-here j h e = e ∙ job-loss-is h (seconds t) (rw (h .shortest) at (u .up .above))
 
   pub up-later : Later spans runs rates weights (i + 1) n (seconds t)
@@ -110,7 +112,7 @@ module _ {A : Type 0} {Good : A → Type 0} {f : ℕ → ℕ → List Seconds �
       let a = u .up .above in
       record { js = o .rest; held = o .later; from = omega arith }
 
-  pub up-written : written * (t / step .0) + getD runs i 0 ≤ 1887379200
+  pub up-written : carried written step (seconds t) (getD runs i 0) ≤ mostNeed
   up-written = next-written (u .ready) (u .less) t (u .up .multiple) (u .up .above) (u .on)
 
   -- the first multiplier that reaches the interval
@@ -121,7 +123,7 @@ module _ {A : Type 0} {Good : A → Type 0} {f : ℕ → ℕ → List Seconds �
       let s = o .holds .shortest in
       round-up-some (omega arith) (u .ready .from)
 
-  pub up-cut : ReadyForCut spans rates (i + 1) n (seconds t) (written * (t / step .0) + getD runs i 0)
+  pub up-cut : ReadyForCut spans rates (i + 1) n (seconds t) (carried written step (seconds t) (getD runs i 0))
   up-cut = record { runs = runs; weights = weights; ready = next-ready (u .ready) (u .less) t (u .up .multiple) (u .up .above) (u .on) zero-le }
 
   -- one turn, where the walk below this multiple takes what is had to acc′
@@ -156,7 +158,7 @@ module _ {A : Type 0} {Good : A → Type 0} {f : ℕ → ℕ → List Seconds �
           let passed = repeats .passed in
           settled-passes f j js (node step written lost (periodsIn i ps₀)) acc (u .ready .from) (held-valid js (held-next j js h)) t (up-later .from) (u .up .multiple) (u .up .settled j js h) idle (rw (h .jobs .0 .shortest) at passed) multiples-lists
 
-  module _ {x : ℕ} (own : x ≡ lossAt (getD weights i 0) (getD rates i 0) (getD runs (8 + i) 0) t) where
+  module _ {x : ℕ} (own : x ≡ lossHeld runs rates weights i (seconds t)) where
     pub up-lost : lost + x ≤ mostLoss * (i + 1)
     up-lost =
         let o = held-open (u .ready .js) (u .less) (u .ready .held) in
@@ -165,7 +167,7 @@ module _ {A : Type 0} {Good : A → Type 0} {f : ℕ → ℕ → List Seconds �
         let l : lost ≤ mostLoss * i = u .ready .bounded .lost-to in
         omega arith
 
-    pub up-next : Ready spans runs rates weights (i + 1) n (seconds t) (written * (t / step .0) + getD runs i 0) (lost + x)
+    pub up-next : Ready spans runs rates weights (i + 1) n (seconds t) (carried written step (seconds t) (getD runs i 0)) (lost + x)
     up-next = next-ready (u .ready) (u .less) t (u .up .multiple) (u .up .above) (u .on) up-lost
 
     module _ {low : ℕ} (floor : IsLossFloor spans runs rates weights (i + 1) n (seconds t) low) where
@@ -194,7 +196,7 @@ module _ {A : Type 0} {Good : A → Type 0} {f : ℕ → ℕ → List Seconds �
               let stays : walkFrom f (o .job) (o .rest) p t acc ≡ acc = loop-left f (o .job) (o .rest) p t (lost + x + low) acc (held-valid (o .rest) (o .later)) pos (omega arith) keeps in
               rw (o .is) (sym stays ∙ u .up .is (o .job) (o .rest) k)
 
-      pub up-skip : ChangesNothing f spans rates (i + 1) n (seconds t) (written * (t / step .0) + getD runs i 0) (lost + x + low) acc →
+      pub up-skip : ChangesNothing f spans rates (i + 1) n (seconds t) (carried written step (seconds t) (getD runs i 0)) (lost + x + low) acc →
           Up f spans runs rates weights i n step written lost ps₀ acc₀ ps acc (t + step .0)
       up-skip nothing = turn (u .up .before) below
         where
@@ -205,7 +207,7 @@ module _ {A : Type 0} {Good : A → Type 0} {f : ℕ → ℕ → List Seconds �
               let stays = nothing runs weights js (lost + jobLoss j (seconds t)) (periodsIn i ps₀ ++ (seconds t ∷ [])) (held-next j js h) (omega arith) in
               rw (h .jobs .0 .for-need) at stays
 
-      pub up-turn : {ps′ : List ℕ} {acc′ : A} → length ps ≡ 8 → Walked f spans runs rates weights (i + 1) n (seconds t) (written * (t / step .0) + getD runs i 0) (lost + x) (set ps i t) ps′ acc acc′ →
+      pub up-turn : {ps′ : List ℕ} {acc′ : A} → length ps ≡ 8 → Walked f spans runs rates weights (i + 1) n (seconds t) (carried written step (seconds t) (getD runs i 0)) (lost + x) (set ps i t) ps′ acc acc′ →
           Up f spans runs rates weights i n step written lost ps₀ acc₀ ps′ acc′ (t + step .0)
       up-turn {ps′} {acc′} eight w = turn same below
         where

@@ -4,18 +4,21 @@ use mathlib.Core.Path.{_≡_, ap}
 use mathlib.Core.List.{List, []}
 use Prim.Native.Nat.{ℕ, _+_, _*_, _/_, _%_, _≤_, _<_, zero-le}
 use native.Mathlib.Omega.{arith}
-use native.Mathlib.Nat.{le-refl, le-trans, mul-le-mul-right}
+use native.Mathlib.Nat.{le-refl}
 use lib.ListN.{getD}
 use Rattle.model.specs.declared.Seconds.{Seconds}
 use Rattle.model.specs.declared.Job.{Job}
-use Rattle.model.proofs.Bounds.{mostLoss, load-bound}
+use Rattle.model.specs.Most.{mostPages, mostNeed, mostLoss}
+use Rattle.model.proofs.Bounds.{load-bound}
 use Rattle.model.specs.Model.{seconds, load, Allowed, roundUp}
+use Rattle.step.specs.Step.{carried, needAt, NeedFits}
+use Rattle.step.proofs.Bounds.{start-bounded, need-bound, next-bounded, bounded-fits}
 use Rattle.walk.specs.Walk.{needFloor, Node, node, walkBy}
 use Rattle.walk.specs.Arrays.{HoldsJob, Held}
-use Rattle.walk.specs.Steps.{needAt, NeedFits, Ends, Unreached, Ready, ReadyForCut, ChangesNothing}
+use Rattle.walk.specs.Steps.{Ends, Unreached, Ready, ReadyForCut, ChangesNothing}
 use Rattle.walk.proofs.Chains.{ListsAllowed, multiples-lists}
 use Rattle.walk.proofs.Walk.{Keeps, walk-cut, walk-out-of-reach}
-use Rattle.walk.proofs.Bounds.{start-bounded, need-bound, least-needs-bound, next-bounded}
+use Rattle.walk.proofs.Bounds.{least-needs-bound}
 use Rattle.walk.proofs.Held.{held-open, held-at, held-valid}
 
 module _ {spans runs rates weights : List ℕ} {i n : ℕ} where
@@ -56,19 +59,14 @@ module _ {spans runs rates weights : List ℕ} {i n : ℕ} where
         let e = o .holds .shortest in
         omega arith
 
-    pub ready-own : i < n → getD runs i 0 ≤ 65534
+    pub ready-own : i < n → getD runs i 0 ≤ mostPages
     ready-own less =
         let o = held-open (r .js) less (r .held) in
         let e = o .holds .for-need in
         omega (arith, load-bound (o .job) (o .holds .valid))
 
     pub ready-need : NeedFits written t
-    ready-need =
-        let w : written ≤ 65534 * i * t .0 = r .bounded .pages-to in
-        let p = place-to in
-        let k : 65534 * i ≤ 524272 = omega arith in
-        let m : 65534 * i * t .0 ≤ 524272 * t .0 = mul-le-mul-right (t .0) k in
-        record { from = r .from; to = r .to; written-to = le-trans w m }
+    ready-need = bounded-fits (r .bounded) place-to (r .from) (r .to)
 
     pub ready-ends : Ends spans i n t
     ready-ends = record { most = r .held .most; from = r .from; to = ends }
@@ -76,13 +74,12 @@ module _ {spans runs rates weights : List ℕ} {i n : ℕ} where
         ends : (k : ℕ) → i ≤ k → k < n → getD spans (8 + k) 0 ≤ 3600
         ends k from to = let a = held-at k (r .js) from to (r .held) in let v = a .holds .valid in let e = a .holds .longest in omega arith
 
-    pub need-floor-to : needAt written t + getD rates (8 + i) 0 ≤ 1887379200
-    unfolding needAt
+    pub need-floor-to : needAt written t + getD rates (8 + i) 0 ≤ mostNeed
     need-floor-to =
         let c = r .held .count in
         let m = r .held .most in
         let e = r .held .needs in
-        let a : needAt written t ≤ 235922400 * i = need-bound i (node t written lost []) (r .from) (r .bounded) in
+        let a = need-bound (r .bounded) (r .from) in
         let b = least-needs-bound (r .js) (held-valid (r .js) (r .held)) in
         omega arith
 
@@ -91,26 +88,23 @@ module _ {spans runs rates weights : List ℕ} {i n : ℕ} where
       pub next-allowed : (j : Job) {js : List Job} → HoldsJob spans runs rates weights i j js → Allowed j t (seconds u)
       next-allowed j h = record { above = rw (h .shortest) at above; below = rw (h .longest) at below; multiple = multiple }
 
-      pub next-ready : {lost′ : ℕ} → lost′ ≤ mostLoss * (i + 1) → Ready spans runs rates weights (i + 1) n (seconds u) (written * (u / t .0) + getD runs i 0) lost′
+      pub next-ready : {lost′ : ℕ} → lost′ ≤ mostLoss * (i + 1) → Ready spans runs rates weights (i + 1) n (seconds u) (carried written t (seconds u) (getD runs i 0)) lost′
       next-ready {lost′} lost≤ =
           let o = held-open (r .js) less (r .held) in
           let v = o .holds .valid in
           let lo = o .holds .shortest in
           let hi = o .holds .longest in
           let own = o .holds .for-need in
-          let b = next-bounded i (o .job) (node t written lost []) (seconds u) v (next-allowed (o .job) (o .holds)) (r .bounded) in
-          let p : written * (u / t .0) + load (o .job) ≤ 65534 * (i + 1) * u = b .pages-to in
+          let b = next-bounded (r .bounded) (o .job) (seconds u) v (next-allowed (o .job) (o .holds)) in
+          let p : carried written t (seconds u) (load (o .job)) ≤ mostPages * (i + 1) * u = b .pages-to in
           record { js = o .rest; held = o .later; from = omega arith; to = omega arith; bounded = record { pages-to = omega arith; lost-to = lost≤ } }
 
-      pub next-written : written * (u / t .0) + getD runs i 0 ≤ 1887379200
+      pub next-written : carried written t (seconds u) (getD runs i 0) ≤ mostNeed
       next-written =
-          let s : Ready spans runs rates weights (i + 1) n (seconds u) (written * (u / t .0) + getD runs i 0) 0 = next-ready zero-le in
-          let p : written * (u / t .0) + getD runs i 0 ≤ 65534 * (i + 1) * u = s .bounded .pages-to in
-          let c = s .held .count in
-          let m = s .held .most in
-          let k : 65534 * (i + 1) ≤ 524272 = omega arith in
-          let q : 65534 * (i + 1) * u ≤ 524272 * u = mul-le-mul-right u k in
-          let to = s .to in
+          let s : Ready spans runs rates weights (i + 1) n (seconds u) (carried written t (seconds u) (getD runs i 0)) 0 = next-ready zero-le in
+          let f = bounded-fits (s .bounded) (let c = s .held .count in let m = s .held .most in omega arith) (s .from) (s .to) in
+          let w = f .written-to in
+          let to = f .to in
           omega arith
 
 -- where a walk begins

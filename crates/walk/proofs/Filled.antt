@@ -8,11 +8,14 @@ use native.Mathlib.Decide.{ℕ-discrete}
 use native.Mathlib.Nat.{sub-zero}
 use lib.ListN.{length, getD, set, replicate, length-set, getD-replicate}
 use lib.Seq.{getD-set-same, getD-set-other}
+use Rattle.model.specs.declared.PagesPerHour.{PagesPerHour}
 use Rattle.model.specs.declared.Job.{Job}
 use Rattle.model.specs.declared.Profile.{Profile}
 use Rattle.model.specs.Model.{noJob, entries, jobsOf, load, cost, rate}
+use Rattle.model.specs.Most.{mostNeed}
 use Rattle.model.specs.Valid.{ValidJob, ValidJobs, Valid}
 use Rattle.model.proofs.Entries.{entries-step, entries-end}
+use Rattle.step.specs.Step.{hourly}
 use Rattle.walk.specs.Walk.{leastNeeds}
 use Rattle.walk.specs.Arrays.{HoldsJob, HoldsJobs, Held, jobAt, Filled, first, second, SecondsFrom, PagesFrom, needsFrom, RatesFrom, StiffnessesFrom}
 use Rattle.walk.proofs.Bounds.{least-needs-bound}
@@ -65,7 +68,7 @@ module _ {p : Profile} (v : Valid p) where
   valid-later zero k e = tt
   valid-later (suc m) k e = (valid-at k (omega arith), valid-later m (k + 1) (omega arith))
 
-  pub needs-to : (k : ℕ) → k ≤ p .n → needsFrom p k ≤ 1887379200
+  pub needs-to : (k : ℕ) → k ≤ p .n → needsFrom p k ≤ mostNeed
   needs-to k to =
       let b = least-needs-bound (entries noJob (p .jobs) k (p .n - k)) (valid-later (p .n - k) k (omega arith)) in
       let l = entries-length (p .jobs) (p .n - k) k in
@@ -123,18 +126,18 @@ module _ {p : Profile} (v : Valid p) where
         let size = s .size in
         record { size = length-set xs (k - 1) (jobAt p (k - 1) .stiffness) ∙ size; stiff = filled-more first _ xs (jobAt p (k - 1) .stiffness) (λ m on. omega arith) (omega arith) refl (s .stiff) }
 
-    module _ (x y needs : ℕ) (is-x : x ≡ cost (jobAt p (k - 1))) (is-y : y ≡ load (jobAt p (k - 1))) (had : needs ≡ needsFrom p k) where
-      pub needs-more : 3600 * y / jobAt p (k - 1) .hi .0 + needs ≡ needsFrom p (k - 1)
-      needs-more = ap₂ (λ (a b : ℕ). 3600 * a / jobAt p (k - 1) .hi .0 + b) is-y had ∙ sym (needs-step p k pos to)
+    -- the pages of a run, and their rate at the longest period: what the job needs at least
+    module _ {own needs : ℕ} {slow : PagesPerHour} (is-own : own ≡ load (jobAt p (k - 1))) (is-slow : slow ≡ hourly own (jobAt p (k - 1) .hi)) (had : needs ≡ needsFrom p k) where
+      pub needs-more : slow .0 + needs ≡ needsFrom p (k - 1)
+      needs-more =
+          let least = is-slow ∙ ap (λ (x : ℕ). hourly x (jobAt p (k - 1) .hi)) is-own in
+          ap₂ (λ (a : PagesPerHour) (b : ℕ). a .0 + b) least had ∙ sym (needs-step p k pos to)
 
-      pub rates-more : {xs : List ℕ} → RatesFrom p k xs → RatesFrom p (k - 1) (set (set xs (k - 1) (3600 * x / jobAt p (k - 1) .lo .0)) (8 + (k - 1)) (3600 * y / jobAt p (k - 1) .hi .0 + needs))
-      unfolding rate
-      rates-more {xs} s =
+      pub rates-more : {fast : PagesPerHour} {xs : List ℕ} → fast ≡ rate (jobAt p (k - 1)) (jobAt p (k - 1) .lo) → RatesFrom p k xs → RatesFrom p (k - 1) (set (set xs (k - 1) (fast .0)) (8 + (k - 1)) (slow .0 + needs))
+      rates-more {fast} {xs} is-fast s =
           let size = s .size in
-          let a = 3600 * x / jobAt p (k - 1) .lo .0 in
-          let c = 3600 * y / jobAt p (k - 1) .hi .0 + needs in
-          let b = both-more _ _ xs a c (omega arith) (ap (λ (z : ℕ). 3600 * z / jobAt p (k - 1) .lo .0) is-x) needs-more (s .fastest) (s .needs) in
-          record { size = length-set (set xs (k - 1) a) (8 + (k - 1)) c ∙ length-set xs (k - 1) a ∙ size; fastest = b .0; needs = b .1 }
+          let b = both-more _ _ xs (fast .0) (slow .0 + needs) (omega arith) (ap (λ (r : PagesPerHour). r .0) is-fast) needs-more (s .fastest) (s .needs) in
+          record { size = length-set (set xs (k - 1) (fast .0)) (8 + (k - 1)) (slow .0 + needs) ∙ length-set xs (k - 1) (fast .0) ∙ size; fastest = b .0; needs = b .1 }
 
   -- all four arrays together hold the jobs
   module _ {spans runs rates weights : List ℕ} (s : SecondsFrom p 0 spans) (g : PagesFrom p 0 runs) (r : RatesFrom p 0 rates) (w : StiffnessesFrom p 0 weights) where

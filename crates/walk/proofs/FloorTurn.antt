@@ -7,11 +7,12 @@ use native.Mathlib.Omega.{arith}
 use lib.ListN.{getD}
 use Rattle.model.specs.declared.Seconds.{Seconds}
 use Rattle.model.specs.declared.Job.{Job}
-use Rattle.model.proofs.Bounds.{mostLoss, job-loss-bound}
+use Rattle.model.specs.Most.{mostLoss}
+use Rattle.model.proofs.Bounds.{job-loss-bound}
 use Rattle.model.specs.Model.{seconds, jobLoss}
 use Rattle.walk.specs.Walk.{lossFloor}
 use Rattle.walk.specs.Arrays.{HoldsJob, Held}
-use Rattle.walk.specs.Steps.{lossAt, LossFits, Later}
+use Rattle.walk.specs.Steps.{lossHeld, LossHeldFits, Later}
 use Rattle.walk.proofs.Held.{held-open, held-none, held-at, job-loss-fits, job-loss-is}
 
 -- The sum is the floor of the jobs from place k on.
@@ -32,13 +33,13 @@ module _ {spans runs rates weights : List ℕ} {i n : ℕ} {t : Seconds} (l : La
     at-least : (j : Job) {js : List Job} → HoldsJob spans runs rates weights (k - 1) j js → j .lo .0 ≤ u .0
     at-least j h = let s = h .shortest in omega arith
 
-    pub floor-fits : LossFits (getD weights (k - 1) 0) (getD rates (k - 1) 0) (getD runs (8 + (k - 1)) 0) (u .0)
+    pub floor-fits : LossHeldFits runs rates weights (k - 1) u
     floor-fits =
         let to = f .to in
         let a = held-at (k - 1) (l .js) (omega arith) (omega arith) (l .held) in
         job-loss-fits (a .holds) u (at-least (a .job) (a .holds))
 
-    module _ (x : ℕ) (lost : x ≡ lossAt (getD weights (k - 1) 0) (getD rates (k - 1) 0) (getD runs (8 + (k - 1)) 0) (u .0)) where
+    module _ (x : ℕ) (lost : x ≡ lossHeld runs rates weights (k - 1) u) where
       one-small : x ≤ mostLoss
       one-small =
           let to = f .to in

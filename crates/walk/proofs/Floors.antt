@@ -10,9 +10,10 @@ use Rattle.model.specs.declared.Seconds.{Seconds}
 use Rattle.model.specs.declared.Job.{Job}
 use Rattle.model.specs.Model.{load, cost, Allowed, PermittedAfter, lastOf, roundUp, rate, jobLoss, loss}
 use Rattle.model.specs.Valid.{ValidJob, ValidJobs}
-use Rattle.walk.specs.Walk.{pagesAfter, needAfter, lossFloor, leastNeeds, needFloor}
+use Rattle.step.specs.Step.{carried, pagesAfter, needAfter}
+use Rattle.walk.specs.Walk.{lossFloor, leastNeeds, needFloor}
 use Rattle.model.proofs.Rounding.{round-up-le, round-up-above, multiple-is, split-product}
-use Rattle.walk.proofs.Pages.{multiple-trans}
+use Rattle.step.proofs.Pages.{multiple-trans}
 
 pub quotient-falls : (a : ℕ) {t u : ℕ} → 1 ≤ t → t ≤ u → a / u ≤ a / t
 quotient-falls a {t} {u} pos h = le-div-iff-mul-le pos .1 (le-trans (mul-le-mul-left (a / u) h) (div-mul-le-self a u))
@@ -73,7 +74,7 @@ one-more s q most k {c} {t} {u} pos u-pos is small whole =
 
 -- one more job at a permitted period does not lower the floor
 pub need-floor-step : (pages : ℕ) (t u : Seconds) (j : Job) (js : List Job) → ValidJob j → 1 ≤ t .0 → Allowed j t u →
-    needFloor pages t (j ∷ js) ≤ needFloor (pages * (u .0 / t .0) + load j) u js
+    needFloor pages t (j ∷ js) ≤ needFloor (carried pages t u (load j)) u js
 unfolding needFloor leastNeeds
 need-floor-step pages t u j js v pos a =
     let k = u .0 / t .0 in
@@ -95,7 +96,7 @@ need-floor pages t (j ∷ js) [] v pos h = absurd h
 need-floor pages t (j ∷ js) (u ∷ us) v pos h =
     let valid = v .0 in
     let allowed = h .0 in
-    le-trans (need-floor-step pages t u j js valid pos allowed) (need-floor (pages * (u .0 / t .0) + load j) u js us (v .1) (omega arith) (h .1))
+    le-trans (need-floor-step pages t u j js valid pos allowed) (need-floor (carried pages t u (load j)) u js us (v .1) (omega arith) (h .1))
 
 -- every interval holds a multiple of whatever divides the period before
 reached : (before : Seconds) (d : ℕ) {j : Job} (js : List Job) (ts : List Seconds) → 1 ≤ d → before .0 % d ≡ 0 → List·Memᴰ j js → PermittedAfter before js ts → j .lo .0 ≤ j .hi .0 / d * d

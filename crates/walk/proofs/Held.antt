@@ -1,43 +1,18 @@
 -- What stands in the arrays is what the definitions compute from the jobs, and it fits the machine's numbers.
 -- Assumes nothing.
-use mathlib.Core.Path.{_≡_, refl, sym, _∙_, ap, subst}
+use mathlib.Core.Path.{_≡_, refl, subst}
 use mathlib.Core.List.{List, [], _∷_, List·Memᴰ, List·Memᴰ·head, List·Memᴰ·tail}
-use Prim.Native.Nat.{ℕ, _+_, _*_, _-_, _/_, _^_, _≤_, _<_}
+use Prim.Native.Nat.{ℕ, _+_, _≤_, _<_}
 use native.Mathlib.Omega.{arith}
-use native.Mathlib.Nat.{mul-le-mul, pow-suc, pow-zero, one-mul, div-le-self}
 use native.Mathlib.Decide.{ℕ-discrete}
 use lib.ListN.{getD}
 use Rattle.model.specs.declared.Seconds.{Seconds}
 use Rattle.model.specs.declared.Job.{Job}
-use Rattle.model.proofs.Bounds.{mostLoss, cost-bound}
-use Rattle.model.specs.Model.{cost, rate, jobLoss}
+use Rattle.model.specs.Model.{jobLoss}
 use Rattle.model.specs.Valid.{ValidJobs}
 use Rattle.walk.specs.Arrays.{HoldsJob, Held}
-use Rattle.walk.specs.Steps.{lossAt, LossFits, needAt, NeedFits}
-use Rattle.model.proofs.Rounding.{round-up-le}
-use Rattle.walk.proofs.Floors.{quotient-falls}
-
-square : (x : ℕ) → x ^ 2 ≡ x * x
-square x = pow-suc x 1 ∙ ap (λ (y : ℕ). y * x) (pow-suc x 0 ∙ ap (λ (y : ℕ). y * x) (pow-zero x) ∙ one-mul x)
-
--- the loss of one job fits 64 bits
-module _ {w most c t : ℕ} (h : LossFits w most c t) where
-  pub square-fits : (most - 3600 * c / t) * (most - 3600 * c / t) ≤ 235922400 * 235922400
-  square-fits =
-      let d : most - 3600 * c / t ≤ 235922400 = omega arith in
-      mul-le-mul d d
-
-  pub loss-fits : w * ((most - 3600 * c / t) * (most - 3600 * c / t)) ≤ mostLoss
-  loss-fits = mul-le-mul (h .weight-to) square-fits
-
-pub loss-is : (w most c t : ℕ) → w * ((most - 3600 * c / t) * (most - 3600 * c / t)) ≡ lossAt w most c t
-unfolding lossAt
-loss-is w most c t = ap (λ (x : ℕ). w * x) (sym (square (most - 3600 * c / t)))
-
--- and a need fits 32
-pub need-to : {written : ℕ} {t : Seconds} → NeedFits written t → needAt written t ≤ 1887379200
-unfolding needAt
-need-to {written} h = round-up-le (3600 * written) 1887379200 (h .from) .1 (omega arith)
+use Rattle.walk.specs.Steps.{lossHeld, LossHeldFits}
+use Rattle.step.proofs.Fits.{numbers-fit, loss-by-numbers}
 
 -- The job at place i, with the jobs after it.
 pub record Opened (spans runs rates weights : List ℕ) (i n : ℕ) (js : List Job) : Type 0 where
@@ -81,20 +56,8 @@ module _ {spans runs rates weights : List ℕ} where
       go (no d) ih = let r = ih (omega arith) in record { job = r .job; rest = r .rest; member = List·Memᴰ·tail (r .member); holds = r .holds }
 
   module _ {i : ℕ} {j : Job} {js : List Job} (h : HoldsJob spans runs rates weights i j js) (t : Seconds) (on : j .lo .0 ≤ t .0) where
-    pub job-loss-fits : LossFits (getD weights i 0) (getD rates i 0) (getD runs (8 + i) 0) (t .0)
-    unfolding rate
-    job-loss-fits =
-        let v = h .valid in
-        let r : getD rates i 0 ≡ 3600 * cost j / j .lo .0 = h .fastest in
-        let c = h .for-loss in
-        let few = cost-bound j v in
-        let w = h .stiff in
-        let pos : 1 ≤ t .0 = omega arith in
-        let slow : 3600 * cost j / t .0 ≤ 3600 * cost j / j .lo .0 = quotient-falls (3600 * cost j) (v .lo-from) on in
-        let own : 3600 * getD runs (8 + i) 0 / t .0 ≡ 3600 * cost j / t .0 = ap (λ (x : ℕ). 3600 * x / t .0) c in
-        let top : 3600 * cost j / j .lo .0 ≤ 3600 * cost j = div-le-self (3600 * cost j) (j .lo .0) in
-        record { weight-to = omega arith; most-to = omega arith; pages-to = omega arith; from = pos; slower = omega arith }
+    pub job-loss-fits : LossHeldFits runs rates weights i t
+    job-loss-fits = rw (h .stiff, h .fastest, h .for-loss) (numbers-fit j t (h .valid) on)
 
-    pub job-loss-is : lossAt (getD weights i 0) (getD rates i 0) (getD runs (8 + i) 0) (t .0) ≡ jobLoss j t
-    unfolding lossAt jobLoss rate
-    job-loss-is = rw (h .stiff, h .fastest, h .for-loss)
+    pub job-loss-is : lossHeld runs rates weights i t ≡ jobLoss j t
+    job-loss-is = rw (h .stiff, h .fastest, h .for-loss) (loss-by-numbers j t)

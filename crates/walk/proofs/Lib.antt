@@ -1,7 +1,6 @@
 pub mod Sorted
 pub mod Chains
 pub mod Falling
-pub mod Pages
 pub mod Floors
 pub mod Walk
 pub mod Pageless

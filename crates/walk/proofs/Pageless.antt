@@ -12,12 +12,13 @@ use Rattle.model.specs.declared.Seconds.{Seconds}
 use Rattle.model.specs.declared.Job.{Job}
 use Rattle.model.specs.Model.{seconds, load, cost, PermittedAfter, lastOf, roundUp, rate, jobLoss, loss}
 use Rattle.model.specs.Valid.{ValidJobs}
+use Rattle.step.specs.Step.{carried, pagesAfter, needAfter}
 use Rattle.walk.specs.Chains.{chainsBy}
-use Rattle.walk.specs.Walk.{pagesAfter, needAfter, visit, Node, next, walkBy}
+use Rattle.walk.specs.Walk.{visit, Node, next, walkBy}
 use Rattle.walk.specs.Steps.{PassedOver}
 use Rattle.model.proofs.Rounding.{round-up-le, round-up-above, multiple-is}
 use Rattle.walk.proofs.Chains.{ListsAllowed, chains-all}
-use Rattle.walk.proofs.Pages.{multiple-trans, quotient-trans}
+use Rattle.step.proofs.Pages.{multiple-trans, quotient-trans}
 use Rattle.walk.proofs.Walk.{atPlan, walk-visits, walk-kept}
 
 -- neither factor of a number that is not zero is zero
@@ -117,7 +118,7 @@ module _ {order : Seconds → Job → List Seconds} (law : ListsAllowed order) {
   passed-over v none pos u-pos t-pos u-multiple t-multiple settled = walk-kept law f s js (next j n t) v t-pos stands
     where
       need-same : (ts : List Seconds) → PermittedAfter t js ts →
-          needAfter (n .pages * (t .0 / n .before .0) + load j) t js ts ≡ needAfter (n .pages * (u .0 / n .before .0) + load j) u js ts
+          needAfter (carried (n .pages) (n .before) t (load j)) t js ts ≡ needAfter (carried (n .pages) (n .before) u (load j)) u js ts
       need-same ts h =
           let p = n .before .0 in
           let idle = none .for-need in

@@ -10,10 +10,11 @@ use Rattle.model.specs.declared.Seconds.{Seconds}
 use Rattle.model.specs.declared.Job.{Job}
 use Rattle.model.specs.Model.{seconds, load, PermittedAfter, lastOf, roundUp, need, jobLoss, loss}
 use Rattle.model.specs.Valid.{ValidJobs}
+use Rattle.step.specs.Step.{carried, pagesAfter, needAfter}
 use Rattle.walk.specs.Chains.{risingFrom, chainsBy}
-use Rattle.walk.specs.Walk.{pagesAfter, needAfter, lossFloor, needFloor, visit, Node, start, next, walkBy}
+use Rattle.walk.specs.Walk.{lossFloor, needFloor, visit, Node, start, next, walkBy}
 use Rattle.walk.proofs.Chains.{ListsAllowed, chains-only, rising-from}
-use Rattle.walk.proofs.Pages.{need-is}
+use Rattle.step.proofs.Pages.{need-is}
 use Rattle.walk.proofs.Floors.{job-loss-mono, loss-floor-mono, loss-floor, need-floor, out-of-reach}
 
 module _ {A B : Type 0} where
@@ -56,7 +57,7 @@ module _ {A : Type 0} (order : Seconds → Job → List Seconds) (f : ℕ → �
   plan-next : (j : Job) (js : List Job) (n : Node) (t : Seconds) (ts : List Seconds) (a : A) → atPlan f js (next j n t) ts a ≡ atPlan f (j ∷ js) n (t ∷ ts) a
   unfolding atPlan needAfter pagesAfter lastOf loss
   plan-next j js n t ts a =
-      ap₂ (λ (l : ℕ) (us : List Seconds). f (needAfter (n .pages * (t .0 / n .before .0) + load j) t js ts) l us a) (add-assoc (n .lost) (jobLoss j t) (loss js ts)) (append-snoc (n .periods) t ts)
+      ap₂ (λ (l : ℕ) (us : List Seconds). f (needAfter (carried (n .pages) (n .before) t (load j)) t js ts) l us a) (add-assoc (n .lost) (jobLoss j t) (loss js ts)) (append-snoc (n .periods) t ts)
 
   -- the walk from a node on is the visit of the chains from there on
   pub walk-visits : (js : List Job) (n : Node) (acc : A) → walkBy order f js n acc ≡ visit (atPlan f js n) acc (chainsBy order (n .before) js)

@@ -1,36 +1,23 @@
 -- What the functions that every walk shares ask and promise. Contracts of inner functions cite this, and those of no entry point.
 -- Assumes nothing.
 use mathlib.Core.Path.{_≡_}
-use mathlib.Core.List.{List, [], map}
-use Prim.Native.Nat.{ℕ, _+_, _*_, _-_, _/_, _%_, _^_, _≤_, _<_}
+use mathlib.Core.List.{List, map}
+use Prim.Native.Nat.{ℕ, _+_, _*_, _/_, _%_, _≤_, _<_}
 use lib.ListN.{getD, take}
 use Rattle.model.specs.declared.Seconds.{Seconds}
 use Rattle.model.specs.declared.Job.{Job}
-use Rattle.model.specs.Model.{seconds, roundUp}
-use Rattle.walk.specs.Walk.{node, walk, Bounded, lossFloor}
+use Rattle.model.specs.Model.{seconds, pagesPerHour}
+use Rattle.step.specs.Step.{lossAt, LossFits, Bounded}
+use Rattle.walk.specs.Walk.{node, walk, lossFloor}
 use Rattle.walk.specs.Arrays.{Held}
 
--- A job's loss at a period, from its numbers: stiffness, rate at the shortest period, pages of a run.
-unfoldable pub lossAt : ℕ → ℕ → ℕ → ℕ → ℕ
-lossAt w most c t = w * (most - 3600 * c / t) ^ 2
+-- What the job at place i loses at period t, by its numbers.
+abbrev pub lossHeld : List ℕ → List ℕ → List ℕ → ℕ → Seconds → ℕ
+lossHeld runs rates weights i t = lossAt (getD weights i 0) (pagesPerHour (getD rates i 0)) (getD runs (8 + i) 0) t
 
--- The numbers for which that fits 64 bits.
-pub record LossFits (w most c t : ℕ) : Type 0 where
-  pub weight-to : w ≤ 32
-  pub most-to : most ≤ 235922400
-  pub pages-to : c ≤ 65534
-  pub from : 1 ≤ t
-  pub slower : 3600 * c / t ≤ most
-
--- The need of a plan that writes this much in this time.
-unfoldable pub needAt : ℕ → Seconds → ℕ
-needAt written t = roundUp (3600 * written) (t .0)
-
--- A period, and what is written in it, for which that fits.
-pub record NeedFits (written : ℕ) (t : Seconds) : Type 0 where
-  pub from : 1 ≤ t .0
-  pub to : t .0 ≤ 3600
-  pub written-to : written ≤ 524272 * t .0
+-- The numbers for which that fits.
+abbrev pub LossHeldFits : List ℕ → List ℕ → List ℕ → ℕ → Seconds → Type 0
+LossHeldFits runs rates weights i t = LossFits (getD weights i 0) (pagesPerHour (getD rates i 0)) (getD runs (8 + i) 0) t
 
 -- The intervals from place i to place n end within the hour, and t is a period.
 pub record Ends (spans : List ℕ) (i n : ℕ) (t : Seconds) : Type 0 where
@@ -65,7 +52,7 @@ module _ (spans runs rates weights : List ℕ) where
     pub held : Held spans runs rates weights i n js
     pub from : 1 ≤ t .0
     pub to : t .0 ≤ 3600
-    pub bounded : Bounded i (node t written lost [])
+    pub bounded : Bounded i t written lost
 
   -- r is the loss floor of the jobs from place i on.
   abbrev pub IsLossFloor : ℕ → ℕ → Seconds → ℕ → Type 0

@@ -1,22 +1,12 @@
 -- The walk over all permitted lists, without its cuts, and the floors that allow the cuts. No public contract cites this.
 -- Assumes nothing.
 use mathlib.Core.List.{List, [], _∷_, _++_}
-use Prim.Native.Nat.{ℕ, _+_, _*_, _/_, _≤_, max}
+use Prim.Native.Nat.{ℕ, _+_, _*_, _/_, max}
 use Rattle.model.specs.declared.Seconds.{Seconds}
 use Rattle.model.specs.declared.Job.{Job}
-use Rattle.model.specs.Model.{seconds, load, roundUp, lastOf, jobLoss}
-use Rattle.model.proofs.Bounds.{mostLoss}
+use Rattle.model.specs.Model.{seconds, load, roundUp, jobLoss}
+use Rattle.step.specs.Step.{carried}
 use Rattle.walk.specs.Chains.{risingFrom, multiples, fallingFrom, multiplesDown}
-
--- The pages in Tn seconds, where jobs before these write `pages` in `before` seconds.
-unfoldable pub pagesAfter : ℕ → Seconds → List Job → List Seconds → ℕ
-pagesAfter pages before [] ts = pages
-pagesAfter pages before (j ∷ js) [] = pages
-pagesAfter pages before (j ∷ js) (t ∷ ts) = pagesAfter (pages * (t .0 / before .0) + load j) t js ts
-
--- The need of a plan so completed: its hourly pages, rounded up.
-unfoldable pub needAfter : ℕ → Seconds → List Job → List Seconds → ℕ
-needAfter pages before js ts = roundUp (3600 * pagesAfter pages before js ts) (lastOf before ts .0)
 
 -- What these jobs lose at least when every period is at least `t`.
 unfoldable pub lossFloor : List Job → ℕ → ℕ
@@ -52,7 +42,7 @@ start = record { before = seconds 1; pages = 0; lost = 0; periods = [] }
 
 -- The part with one more job, at period `t`.
 abbrev pub next : Job → Node → Seconds → Node
-next j n t = record { before = t; pages = n .pages * (t .0 / n .before .0) + load j; lost = n .lost + jobLoss j t; periods = n .periods ++ (t ∷ []) }
+next j n t = record { before = t; pages = carried (n .pages) (n .before) t (load j); lost = n .lost + jobLoss j t; periods = n .periods ++ (t ∷ []) }
 
 -- Job by job through the periods that `order` lists; each whole plan, its need and its loss go to `f`.
 unfoldable pub walkBy : {A : Type 0} → (Seconds → Job → List Seconds) → (ℕ → ℕ → List Seconds → A → A) → List Job → Node → A → A
@@ -71,8 +61,3 @@ walkFrom f j js n t acc = visit (λ u. walk f js (next j n u)) acc (risingFrom (
 
 unfoldable pub walkDownFrom : {A : Type 0} → (ℕ → ℕ → List Seconds → A → A) → Job → List Job → Node → ℕ → A → A
 walkDownFrom f j js n t acc = visit (λ u. walkDown f js (next j n u)) acc (fallingFrom (n .before) (j .lo) t)
-
--- A node of i jobs: its pages and its loss.
-pub record Bounded (i : ℕ) (n : Node) : Type 0 where
-  pub pages-to : n .pages ≤ 65534 * i * n .before .0
-  pub lost-to : n .lost ≤ mostLoss * i

@@ -4,17 +4,15 @@
 // specs/Chains.antt and specs/Walk.antt say what the walk is without its cuts, and proofs/ hold its laws, whatever a walk
 // keeps as it goes. specs/Arrays.antt and specs/Steps.antt say what these functions ask and promise; they serve other
 // crates of the planner, and their callers meet what they require. Nothing is assumed.
-use model::Job;
 use model::PagesPerHour;
 use model::Profile;
 use model::Seconds;
 ghost use mathlib.Core.Path.{_≡_};
 ghost use mathlib.Core.Bool.{true, false};
 ghost use Prim.Native.Nat.{_≤_, _<_, max};
-ghost use Rattle.model.specs.Model.{pagesPerHour, load, cost};
-ghost use Rattle.model.specs.Valid.{Valid, ValidJob};
+ghost use Rattle.model.specs.Valid.{Valid};
 ghost use Rattle.walk.specs.Arrays.{SecondsFrom, PagesFrom, RatesFrom, StiffnessesFrom};
-ghost use Rattle.walk.specs.Steps.{lossAt, LossFits, needAt, NeedFits, Ends, Unreached, PassedOver, Repeats, Later, IsLossFloor};
+ghost use Rattle.walk.specs.Steps.{Ends, Unreached, PassedOver, Repeats, Later, IsLossFloor};
 
 // The shortest periods of the jobs, then the longest.
 pub fn seconds_of(p: Profile) -> [u32; 16]
@@ -42,8 +40,8 @@ pub fn pages_of(p: Profile) -> [u32; 16]
     while 0 < k {
         k -= 1;
         let j = p.jobs[k];
-        pages[k] = need_pages(j);
-        pages[8 + k] = loss_pages(j);
+        pages[k] = step::need_pages(j);
+        pages[8 + k] = step::loss_pages(j);
     }
     pages
 }
@@ -59,8 +57,8 @@ pub fn rates_of(p: Profile) -> [u32; 17]
     while 0 < k {
         k -= 1;
         let j = p.jobs[k];
-        rates[k] = 3600 * loss_pages(j) / j.lo.0;
-        needs = 3600 * need_pages(j) / j.hi.0 + needs;
+        rates[k] = step::fastest_rate(j).0;
+        needs = step::hourly_rate(step::need_pages(j), j.hi).0 + needs;
         rates[8 + k] = needs;
     }
     rates
@@ -81,21 +79,6 @@ pub fn stiffnesses_of(p: Profile) -> [u32; 8]
     stiffnesses
 }
 
-// The pages of a run, as need counts them and as loss counts them.
-fn need_pages(j: Job) -> u32
-    requires { ⌜ ValidJob j ⌝ }
-    ensures { λ r. ⌜ r ≡ load j ⌝ }
-{
-    j.data + j.metadata
-}
-
-fn loss_pages(j: Job) -> u32
-    requires { ⌜ ValidJob j ⌝ }
-    ensures { λ r. ⌜ r ≡ cost j ⌝ }
-{
-    j.data + j.metadata
-}
-
 // The lowest loss that jobs i to n can come to when no period is shorter than t.
 pub fn loss_floor(
     seconds: &[u32; 16],
@@ -114,18 +97,9 @@ pub fn loss_floor(
     while i < k {
         k -= 1;
         let u = longer(Seconds(seconds[k]), t);
-        floor = job_loss(stiffnesses[k], PagesPerHour(rates[k]), pages[8 + k], u) + floor;
+        floor = step::job_loss(stiffnesses[k], PagesPerHour(rates[k]), pages[8 + k], u) + floor;
     }
     floor
-}
-
-// What a job loses at period t against its shortest.
-pub fn job_loss(stiffness: u32, fastest: PagesPerHour, pages: u32, t: Seconds) -> u64
-    requires { ⌜ LossFits stiffness (fastest .0) pages (t .0) ⌝ }
-    ensures { λ r. ⌜ r ≡ lossAt stiffness (fastest .0) pages (t .0) ⌝ }
-{
-    let slower = (fastest.0 - 3600 * pages / t.0) as u64;
-    (stiffness as u64) * (slower * slower)
 }
 
 // Whether each of the jobs i to n has a multiple of t in its interval.
@@ -175,15 +149,6 @@ fn passed_over(a: u32, first: u32) -> bool
         p += 1;
     }
     false
-}
-
-// The need of a plan that writes so many pages in t seconds.
-pub fn need_of(written: u64, t: Seconds) -> PagesPerHour
-    requires { ⌜ NeedFits written t ⌝ }
-    ensures { λ r. ⌜ r ≡ pagesPerHour (needAt written t) ⌝ }
-{
-    let span = t.0 as u64;
-    PagesPerHour(((3600 * written + (span - 1)) / span) as u32)
 }
 
 fn longer(a: Seconds, b: Seconds) -> Seconds

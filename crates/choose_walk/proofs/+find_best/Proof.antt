@@ -17,7 +17,7 @@ use borrow.Fn.PlainCycle.{Measures, is, falls, and}
 use Rattle.choose_walk.proofs.find_best.Reads as find-best
 use Rattle.choose_walk.proofs.find_best.Kinds as find-best-kinds
 use Rattle.choose_walk.proofs.+find_best.Lts-find_best as find-best-lts
-use Rattle.walk.proofs.job_loss.Reads as job-loss-reads
+use Rattle.step.proofs.job_loss.Reads as job-loss-reads
 use Rattle.walk.proofs.loss_floor.Reads as loss-floor-reads
 use Rattle.walk.proofs.repeats.Reads as repeats-reads
 use Rattle.choose_offer.proofs.may_win.Reads as may-win-reads

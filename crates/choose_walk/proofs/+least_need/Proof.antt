@@ -13,7 +13,7 @@ use Rattle.choose_walk.proofs.least_need.Reads as least-need
 use Rattle.choose_walk.proofs.least_need.Kinds as least-need-kinds
 use Rattle.choose_walk.proofs.+least_need.Lts-least_need as least-need-lts
 use Rattle.choose_walk.proofs.may_lessen.Reads as may-lessen-reads
-use Rattle.walk.proofs.need_of.Reads as need-of-reads
+use Rattle.step.proofs.need_of.Reads as need-of-reads
 use Rattle.choose_walk.proofs.smaller.Reads as smaller-reads
 use Rattle.choose_walk.proofs.+least_need.{statement}
 use Rattle.choose_walk.proofs.+least_need.Tie.{close}

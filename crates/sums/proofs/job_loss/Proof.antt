@@ -5,7 +5,8 @@ use mathlib.Core.Path.{_≡_, _∙_, ap, ap₂, sym}
 use native.Mathlib.Nat.{mul-le-mul}
 use Rattle.model.specs.declared.PagesPerHour.{PagesPerHour}
 use Rattle.model.specs.Model.{rate, jobLoss}
-use Rattle.model.proofs.Bounds.{mostRate, mostLoss, rate-bound, rate-falls, job-loss-bound, square}
+use Rattle.model.specs.Most.{mostRate, mostLoss}
+use Rattle.model.proofs.Bounds.{rate-bound, rate-falls, job-loss-bound, square}
 use native.Mathlib.Omega.{arith}
 use borrow.Author.Needs.{needs}
 use Rattle.sums.proofs.job_loss.Statement.{statement}

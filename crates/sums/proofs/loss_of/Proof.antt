@@ -5,7 +5,8 @@ use mathlib.Core.Path.{_∙_, sym, ap}
 use native.Mathlib.Nat.{le-trans, le-of-eq, sub-zero}
 use lib.ListN.{getD}
 use Rattle.model.specs.Model.{seconds, noJob, entries, jobsOf, periodsOf, loss}
-use Rattle.model.proofs.Bounds.{mostLoss, job-loss-bound}
+use Rattle.model.specs.Most.{mostLoss}
+use Rattle.model.proofs.Bounds.{job-loss-bound}
 use Rattle.sums.proofs.Scorable.{Scorable, scorable}
 use Rattle.sums.proofs.Sums.{Summed, none-summed, one-summed, next-small, all-summed, loss-step, loss-end}
 use native.Mathlib.Omega.{arith}

@@ -13,7 +13,8 @@ use Rattle.model.specs.Model.{seconds, pagesPerHour, noJob, allows}
 use Rattle.model.specs.Valid.{Valid}
 use Rattle.model.proofs.Validity.{job-valid-at}
 use Rattle.model.proofs.Allowing.{allowed}
-use Rattle.table_check.proofs.Turns.{RowsLeft, PlacesLeft, Scanned, first-rows, first-places, pages-fit, loss-fits, place-off, next-place, next-zero, scanned-row, no-more, place-fails, zero-fails, start-fails, order-fails, next-row}
+use Rattle.step.proofs.Along.{along-fits}
+use Rattle.table_check.proofs.Turns.{RowsLeft, PlacesLeft, Scanned, first-rows, first-places, loss-fits, place-off, next-place, next-zero, scanned-row, no-more, place-fails, zero-fails, start-fails, order-fails, next-row}
 use Rattle.table_check.proofs.first_bad_row.Statement.{statement}
 use Rattle.table_check.proofs.first_bad_row.Tie as tie
 
@@ -93,7 +94,7 @@ element-copy-out-j : tie.Need-element-copy-out-j Inv-loop μ-loop Inv-rows μ-ro
 element-copy-out-j c = search needs
 
 allowed-requires : tie.Need-allowed-requires Inv-loop μ-loop Inv-rows μ-rows
-allowed-requires c κs = c .before .before .before .before .loop .inv .from
+allowed-requires c κs = c .before .before .before .before .loop .inv .along .from
 
 add-bad-2 : tie.Need-add-bad-2 Inv-loop μ-loop Inv-rows μ-rows
 add-bad-2 c = search needs
@@ -109,10 +110,10 @@ written-with-requires c κs =
     let e = c .before .before .before in
     let l = e .before .before .before in
     let j = job-valid-at _ (l .loop .i) (valid l) (e .if2 .left) in
-    (j, pages-fit (valid l) (l .loop .inv), omega (arith, allowed _ (l .loop .before) _ (passed c) .below, j .hi-to))
+    (j, along-fits (l .loop .inv .along), omega (arith, allowed _ (l .loop .before) _ (passed c) .below, j .hi-to))
 
-job-loss-requires : tie.Need-job-loss-requires Inv-loop μ-loop Inv-rows μ-rows
-job-loss-requires c κs =
+loss-with-requires : tie.Need-loss-with-requires Inv-loop μ-loop Inv-rows μ-rows
+loss-with-requires c κs =
     let e = c .before .before .before .before in
     let l = e .before .before .before in
     (job-valid-at _ (l .loop .i) (valid l) (e .if2 .left), allowed _ (l .loop .before) _ (passed (c .before)) .above, ap pagesPerHour (l .before .before .before .before .before .before .rates-of .ensures .fastest (l .loop .i) zero-le (e .if2 .left)))
@@ -121,7 +122,7 @@ add-lost : tie.Need-add-lost Inv-loop μ-loop Inv-rows μ-rows
 add-lost c =
     let e = c .before .before .before .before .before in
     let l = e .before .before .before in
-    omega (arith, loss-fits (valid l) (l .loop .inv) (e .if2 .left) (passed (c .before .before)), c .job-loss .ensures)
+    omega (arith, loss-fits (valid l) (l .loop .inv) (e .if2 .left) (passed (c .before .before)), c .loss-with .ensures)
 
 add-i-2 : tie.Need-add-i-2 Inv-loop μ-loop Inv-rows μ-rows
 add-i-2 c = search needs
@@ -134,12 +135,12 @@ loop-again-2 : tie.Need-loop-again-2 Inv-loop μ-loop Inv-rows μ-rows
 loop-again-2 c =
     let e = c .before .before .before .before .before in
     let l = e .before .before .before in
-    rw (c .before .written-with .ensures, c .job-loss .ensures) (next-place (valid l) (l .loop .inv) (e .if2 .left) (passed (c .before .before)))
+    rw (c .before .written-with .ensures, c .loss-with .ensures) (next-place (valid l) (l .loop .inv) (e .if2 .left) (passed (c .before .before)))
 
 need-of-requires : tie.Need-need-of-requires Inv-loop μ-loop Inv-rows μ-rows
 need-of-requires c κs =
     let l = c .before in
-    pages-fit (valid l) (l .loop .inv)
+    along-fits (l .loop .inv .along)
 
 add-bad-3 : tie.Need-add-bad-3 Inv-loop μ-loop Inv-rows μ-rows
 add-bad-3 c = search needs
@@ -217,7 +218,7 @@ first-bad-row-spec =
     mul-fastest
     array-read-fastest
     written-with-requires
-    job-loss-requires
+    loss-with-requires
     add-lost
     add-i-2
     loop-less-2

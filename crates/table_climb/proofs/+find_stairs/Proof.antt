@@ -19,7 +19,7 @@ use Rattle.table_climb.proofs.find_stairs.Kinds as find-stairs-kinds
 use Rattle.table_climb.proofs.+find_stairs.Lts-find_stairs as find-stairs-lts
 use Rattle.table_stairs.proofs.enter_plan.Reads as enter-plan-reads
 use Rattle.table_stairs.proofs.may_enter.Reads as may-enter-reads
-use Rattle.walk.proofs.job_loss.Reads as job-loss-reads
+use Rattle.step.proofs.job_loss.Reads as job-loss-reads
 use Rattle.walk.proofs.loss_floor.Reads as loss-floor-reads
 use Rattle.walk.proofs.repeats.Reads as repeats-reads
 use Rattle.table_climb.proofs.+find_stairs.{statement}

@@ -2,10 +2,11 @@
 -- Assumes nothing.
 use mathlib.Core.Path.{_≡_, sym}
 use mathlib.Core.List.{List}
-use Prim.Native.Nat.{ℕ, _-_, _≤_}
+use Prim.Native.Nat.{ℕ, _+_, _-_, _≤_}
 use Rattle.model.specs.declared.Profile.{Profile}
-use Rattle.model.proofs.Bounds.{load-bound, cost-bound}
-use Rattle.walk.specs.Arrays.{needsFrom, RatesFrom}
+use Rattle.model.specs.Valid.{ValidJob}
+use Rattle.model.proofs.Bounds.{load-bound}
+use Rattle.walk.specs.Arrays.{jobAt, needsFrom, RatesFrom}
 use Rattle.walk.proofs.Filled.{valid-at, needs-to, needs-none, needs-more, rates-none, rates-more}
 use borrow.Author.Needs.{needs}
 use native.Mathlib.Omega.{arith}
@@ -23,6 +24,12 @@ Inv-loop p rates₀ needs₀ k₀ rates needs k = Rated p rates needs k
 abbrev μ-loop : tie.MeasureT-loop
 μ-loop p rates₀ needs₀ k₀ rates needs k = k
 
+-- the job whose turn it is
+valid : (c : tie.In-loop Inv-loop μ-loop) → ValidJob (jobAt (c .before .before .args .t1) (c .before .loop .k - 1))
+valid c =
+    let pos = c .loop-test .taken in
+    valid-at (c .before .before .pre) (c .before .loop .k - 1) (omega (arith, c .before .loop .inv .upto))
+
 cast-k : tie.Need-cast-k Inv-loop μ-loop
 cast-k c = search needs
 
@@ -38,71 +45,42 @@ mul-j c = search needs
 element-copy-out-j : tie.Need-element-copy-out-j Inv-loop μ-loop
 element-copy-out-j c = search needs
 
-loss-pages-requires : tie.Need-loss-pages-requires Inv-loop μ-loop
-loss-pages-requires c κs =
-    let l = c .before .before .loop in
-    let s = c .before .before .before in
-    let pos = c .before .loop-test .taken in
-    valid-at (s .pre) (l .k - 1) (omega (arith, l .inv .upto))
+fastest-rate-requires : tie.Need-fastest-rate-requires Inv-loop μ-loop
+fastest-rate-requires c κs = valid (c .before)
 
 mul-rates : tie.Need-mul-rates Inv-loop μ-loop
-mul-rates c =
-    let l = c .before .before .before .loop in
-    let s = c .before .before .before .before in
-    let pos = c .before .before .loop-test .taken in
-    let v = valid-at (s .pre) (l .k - 1) (omega (arith, l .inv .upto)) in
-    omega (arith, c .loss-pages .ensures, cost-bound _ v)
-
-div-rates : tie.Need-div-rates Inv-loop μ-loop
-div-rates c =
-    let l = c .before .before .before .before .loop in
-    let s = c .before .before .before .before .before in
-    let pos = c .before .before .before .loop-test .taken in
-    let v = valid-at (s .pre) (l .k - 1) (omega (arith, l .inv .upto)) in
-    omega arith
-
-mul-rates-2 : tie.Need-mul-rates-2 Inv-loop μ-loop
-mul-rates-2 c = search needs
+mul-rates c = search needs
 
 array-write-rates : tie.Need-array-write-rates Inv-loop μ-loop
 array-write-rates c = search needs
 
 need-pages-requires : tie.Need-need-pages-requires Inv-loop μ-loop
-need-pages-requires c κs =
-    let l = c .before .before .before .before .loop in
-    let s = c .before .before .before .before .before in
-    let pos = c .before .before .before .loop-test .taken in
-    valid-at (s .pre) (l .k - 1) (omega (arith, l .inv .upto))
+need-pages-requires c κs = valid (c .before .before)
 
-mul-needs : tie.Need-mul-needs Inv-loop μ-loop
-mul-needs c =
-    let l = c .before .before .before .before .before .loop in
-    let s = c .before .before .before .before .before .before in
-    let pos = c .before .before .before .before .loop-test .taken in
-    let v = valid-at (s .pre) (l .k - 1) (omega (arith, l .inv .upto)) in
-    omega (arith, c .need-pages .ensures, load-bound _ v)
+hourly-rate-requires : tie.Need-hourly-rate-requires Inv-loop μ-loop
+hourly-rate-requires c κs =
+    let v = valid (c .before .before .before) in
+    rw (c .need-pages .ensures) (load-bound _ v, omega (arith, v .lo-from, v .lo-to))
 
-div-needs : tie.Need-div-needs Inv-loop μ-loop
-div-needs c =
-    let l = c .before .before .before .before .before .before .loop in
-    let s = c .before .before .before .before .before .before .before in
-    let pos = c .before .before .before .before .before .loop-test .taken in
-    let v = valid-at (s .pre) (l .k - 1) (omega (arith, l .inv .upto)) in
-    omega arith
+-- what the jobs from this one on need at least
+more : (c : tie.After-hourly-rate Inv-loop μ-loop) → c .hourly-rate .result .0 + c .before .before .before .before .before .loop .needs ≡ needsFrom (c .before .before .before .before .before .before .args .t1) (c .before .before .before .before .before .loop .k - 1)
+more c =
+    let i = c .before .before .before .before in
+    let l = i .before .loop in
+    needs-more (i .before .before .pre) (l .k) (i .loop-test .taken) (l .inv .upto) (c .before .need-pages .ensures) (c .hourly-rate .ensures) (l .inv .sum)
 
 add-needs : tie.Need-add-needs Inv-loop μ-loop
 add-needs c =
-    let l = c .before .before .before .before .before .before .loop in
-    let s = c .before .before .before .before .before .before .before in
-    let pos = c .before .before .before .before .before .loop-test .taken in
-    let m = needs-more (s .pre) (l .k) pos (l .inv .upto) _ _ (l .needs) (c .before .before .before .loss-pages .ensures) (c .before .need-pages .ensures) (l .inv .sum) in
-    omega (arith, m, needs-to (s .pre) (l .k - 1) (omega (arith, l .inv .upto)))
+    let i = c .before .before .before .before .before in
+    let l = i .before .loop in
+    let pos = i .loop-test .taken in
+    omega (arith, more (c .before), needs-to (i .before .before .pre) (l .k - 1) (omega (arith, l .inv .upto)))
 
 add-rates : tie.Need-add-rates Inv-loop μ-loop
 add-rates c = search needs
 
-mul-rates-3 : tie.Need-mul-rates-3 Inv-loop μ-loop
-mul-rates-3 c = search needs
+mul-rates-2 : tie.Need-mul-rates-2 Inv-loop μ-loop
+mul-rates-2 c = search needs
 
 array-write-rates-2 : tie.Need-array-write-rates-2 Inv-loop μ-loop
 array-write-rates-2 c = search needs
@@ -112,13 +90,16 @@ loop-less c = search needs
 
 loop-again : tie.Need-loop-again Inv-loop μ-loop
 loop-again c =
-    let l = c .before .before .before .before .before .before .loop in
-    let s = c .before .before .before .before .before .before .before in
-    let pos = c .before .before .before .before .before .loop-test .taken in
+    let i = c .before .before .before .before .before in
+    let l = i .before .loop in
+    let pos = i .loop-test .taken in
+    let fast = c .before .before .before .fastest-rate .ensures in
+    let own = c .before .before .need-pages .ensures in
+    let slow = c .before .hourly-rate .ensures in
     record {
       upto = omega arith;
-      sum = needs-more (s .pre) (l .k) pos (l .inv .upto) _ _ (l .needs) (c .before .before .before .loss-pages .ensures) (c .before .need-pages .ensures) (l .inv .sum);
-      held = rates-more (s .pre) (l .k) pos (l .inv .upto) _ _ (l .needs) (c .before .before .before .loss-pages .ensures) (c .before .need-pages .ensures) (l .inv .sum) (l .inv .held);
+      sum = more (c .before);
+      held = rates-more (i .before .before .pre) (l .k) pos (l .inv .upto) own slow (l .inv .sum) fast (l .inv .held);
     }
 
 returns : tie.Need-returns Inv-loop μ-loop
@@ -138,17 +119,14 @@ rates-of-spec =
     sub-k
     mul-j
     element-copy-out-j
-    loss-pages-requires
+    fastest-rate-requires
     mul-rates
-    div-rates
-    mul-rates-2
     array-write-rates
     need-pages-requires
-    mul-needs
-    div-needs
+    hourly-rate-requires
     add-needs
     add-rates
-    mul-rates-3
+    mul-rates-2
     array-write-rates-2
     loop-less
     loop-again

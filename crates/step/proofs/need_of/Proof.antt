@@ -1,12 +1,12 @@
--- `walk::need_of` meets its contract: eight jobs cannot need more than 1,887,379,200.
+-- `step::need_of` meets its contract: eight jobs cannot need more than 1,887,379,200.
 -- Assumes nothing.
 use borrow.Author.Needs.{needs}
-use Rattle.walk.specs.Steps.{needAt}
-use Rattle.walk.proofs.Held.{need-to}
+use Rattle.step.specs.Step.{needAt}
+use Rattle.step.proofs.Fits.{need-to}
 use mathlib.Core.Path.{refl}
 use native.Mathlib.Omega.{arith}
-use Rattle.walk.proofs.need_of.Statement.{statement}
-use Rattle.walk.proofs.need_of.Tie as tie
+use Rattle.step.proofs.need_of.Statement.{statement}
+use Rattle.step.proofs.need_of.Tie as tie
 
 cast-span : tie.Need-cast-span
 cast-span c = search needs

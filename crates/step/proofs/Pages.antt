@@ -1,7 +1,6 @@
 -- Every period divides the next, so the pages in one period, taken over to the next and on to the last, are the pages in Tn seconds.
 -- Assumes nothing.
 use mathlib.Core.Path.{_≡_, _∙_, ap}
-use mathlib.Core.Logic.{_↔_}
 use mathlib.Core.List.{List, [], _∷_}
 use Prim.Native.Nat.{ℕ, _+_, _*_, _/_, _%_, _≤_}
 use native.Mathlib.Omega.{arith}
@@ -10,8 +9,8 @@ use Rattle.model.specs.declared.Seconds.{Seconds}
 use Rattle.model.specs.declared.Job.{Job}
 use Rattle.model.specs.Model.{seconds, pagesPerHour, load, PermittedAfter, Permitted, lastOf, pagesIn, roundUp, need}
 use Rattle.model.specs.Valid.{ValidJobs}
-use Rattle.walk.specs.Walk.{pagesAfter, needAfter}
-use Rattle.model.proofs.Rounding.{round-up-le, multiple-is}
+use Rattle.step.specs.Step.{carried, pagesAfter, needAfter}
+use Rattle.model.proofs.Rounding.{multiple-is}
 
 -- a multiple of a multiple: the quotients multiply
 quotients : (p t s : ℕ) → t % p ≡ 0 → s % t ≡ 0 → s ≡ (t / p * (s / t)) * p
@@ -51,7 +50,7 @@ pages-after pages before (j ∷ js) [] v pos h = absurd h
 pages-after pages before (j ∷ js) (t ∷ ts) v pos h =
     let p = before .0 in
     let last = lastOf t ts .0 in
-    let onward = pages-after (pages * (t .0 / p) + load j) t js ts (v .1) (omega arith) (h .1) in
+    let onward = pages-after (carried pages before t (load j)) t js ts (v .1) (omega arith) (h .1) in
     let whole : last / p ≡ t .0 / p * (last / t .0) = quotient-trans p (t .0) last pos (h .0 .multiple) (last-multiple t js ts (h .1)) in
     let moved : pages * (last / p) ≡ pages * (t .0 / p * (last / t .0)) = ap (λ (x : ℕ). pages * x) whole in
     omega arith
@@ -63,8 +62,3 @@ module _ (js : List Job) (ts : List Seconds) (v : ValidJobs js) (h : Permitted j
       let p = pages-after 0 (seconds 1) js ts v (omega arith) h in
       let e : pagesIn (lastOf (seconds 1) ts) js ts ≡ pagesAfter 0 (seconds 1) js ts = omega arith in
       ap (λ (x : ℕ). pagesPerHour (roundUp (3600 * x) (lastOf (seconds 1) ts .0))) e
-
-  -- periods fit a budget exactly when the budget, over Tn seconds, has room for their pages
-  pub need-fits : (b : ℕ) → (need js ts .0 ≤ b) ↔ (3600 * pagesAfter 0 (seconds 1) js ts ≤ b * lastOf (seconds 1) ts .0)
-  unfolding needAfter
-  need-fits b = rw need-is (round-up-le _ b (last-positive (seconds 1) js ts v (omega arith) h))

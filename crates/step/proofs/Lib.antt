@@ -1,0 +1,4 @@
+pub mod Along
+pub mod Bounds
+pub mod Fits
+pub mod Pages

@@ -1,0 +1,89 @@
+// What each job adds to the pages and to the loss of a plan: the only place where data and metadata are added, pages carried
+// from one period on to the next, and rates taken.
+//
+// specs/Step.antt says what is reckoned, and proofs/ that so carried along it is the model's need and loss. These functions
+// serve other crates of the planner, and their callers meet what they require. Nothing is assumed.
+use model::Job;
+use model::PagesPerHour;
+use model::Seconds;
+ghost use mathlib.Core.Path.{_≡_};
+ghost use Prim.Native.Nat.{_≤_};
+ghost use Rattle.model.specs.Model.{pagesPerHour, load, cost, rate, jobLoss};
+ghost use Rattle.model.specs.Most.{mostPages};
+ghost use Rattle.model.specs.Valid.{ValidJob};
+ghost use Rattle.step.specs.Step.{carried, needAt, NeedFits, hourly, lossAt, LossFits};
+
+// The pages of a run, as need counts them: its data, and all of its metadata.
+pub fn need_pages(j: Job) -> u32
+    requires { ⌜ ValidJob j ⌝ }
+    ensures { λ r. ⌜ r ≡ load j ⌝ }
+{
+    let metadata = j.metadata;
+    j.data + metadata
+}
+
+// The pages of a run, as loss counts them.
+pub fn loss_pages(j: Job) -> u32
+    requires { ⌜ ValidJob j ⌝ }
+    ensures { λ r. ⌜ r ≡ cost j ⌝ }
+{
+    j.data + j.metadata
+}
+
+// The pages that jobs write in t seconds, this job with them, where those before it have `written` so many in `before`.
+pub fn written_with(j: Job, written: u64, before: Seconds, t: Seconds) -> u64
+    requires { ⌜ ValidJob j × NeedFits written before × (t .0 ≤ 3600) ⌝ }
+    ensures { λ r. ⌜ r ≡ carried written before t (load j) ⌝ }
+{
+    carry(written, before, t, need_pages(j))
+}
+
+// The same where the job's pages are at hand.
+pub fn carry(written: u64, before: Seconds, t: Seconds, own: u32) -> u64
+    requires { ⌜ NeedFits written before × (t .0 ≤ 3600) × (own ≤ mostPages) ⌝ }
+    ensures { λ r. ⌜ r ≡ carried written before t own ⌝ }
+{
+    written * ((t.0 / before.0) as u64) + (own as u64)
+}
+
+// The need of a plan that writes so many pages in t seconds.
+pub fn need_of(written: u64, t: Seconds) -> PagesPerHour
+    requires { ⌜ NeedFits written t ⌝ }
+    ensures { λ r. ⌜ r ≡ pagesPerHour (needAt written t) ⌝ }
+{
+    let span = t.0 as u64;
+    PagesPerHour(((3600 * written + (span - 1)) / span) as u32)
+}
+
+// The hourly rate of so many pages in every t seconds.
+pub fn hourly_rate(pages: u32, t: Seconds) -> PagesPerHour
+    requires { ⌜ (pages ≤ mostPages) × (1 ≤ t .0) ⌝ }
+    ensures { λ r. ⌜ r ≡ hourly pages t ⌝ }
+{
+    PagesPerHour(3600 * pages / t.0)
+}
+
+// A job's rate at its shortest period.
+pub fn fastest_rate(j: Job) -> PagesPerHour
+    requires { ⌜ ValidJob j ⌝ }
+    ensures { λ r. ⌜ r ≡ rate j (j .lo) ⌝ }
+{
+    hourly_rate(loss_pages(j), j.lo)
+}
+
+// What a job loses at a period, against its rate at the shortest.
+pub fn loss_with(j: Job, fastest: PagesPerHour, t: Seconds) -> u64
+    requires { ⌜ ValidJob j × (j .lo .0 ≤ t .0) × (fastest ≡ rate j (j .lo)) ⌝ }
+    ensures { λ r. ⌜ r ≡ jobLoss j t ⌝ }
+{
+    job_loss(j.stiffness, fastest, loss_pages(j), t)
+}
+
+// The same where the job's numbers are at hand.
+pub fn job_loss(stiffness: u32, fastest: PagesPerHour, pages: u32, t: Seconds) -> u64
+    requires { ⌜ LossFits stiffness fastest pages t ⌝ }
+    ensures { λ r. ⌜ r ≡ lossAt stiffness fastest pages t ⌝ }
+{
+    let slower = (fastest.0 - hourly_rate(pages, t).0) as u64;
+    (stiffness as u64) * (slower * slower)
+}
