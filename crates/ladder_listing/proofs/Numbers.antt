@@ -8,7 +8,7 @@ use Rattle.model.specs.declared.Seconds.{Seconds}
 use Rattle.model.specs.declared.Job.{Job}
 use Rattle.model.specs.declared.Profile.{Profile}
 use Rattle.model.specs.declared.Verdict.the-variants.{Sound}
-use Rattle.model.specs.Model.{seconds, noJob, entries, jobsOf, lastOf, pagesIn, need, rate, jobLoss, loss, refuseIf, orElse, ifSound, firstRefused, judgeIntervalAndStiffness, judgeJob, verdictOf, rowsVerdict}
+use Rattle.model.specs.Model.{seconds, noJob, entries, jobsOf, lastOf, load, cost, pagesIn, need, rate, jobLoss, loss, refuseIf, orElse, ifSound, firstRefused, judgeIntervalAndStiffness, judgeJob, verdictOf, rowsVerdict}
 use Rattle.model.proofs.Validity.{sound-valid}
 use Rattle.codec.specs.Packing.{bits, pack, unpack, recut}
 use Rattle.profile_read.specs.declared.Reading.{Reading}
@@ -72,14 +72,14 @@ unfolding profileA job verdictOf judgeJob judgeIntervalAndStiffness firstRefused
 sound = refl
 
 rows-are : rowsBelow (jobsOf profileA) allBudgets ≡ rowsA
-unfolding profileA job rowsA three descent upTo walkBy visit pick beats multiples risingFrom climb rate jobLoss entries
+unfolding profileA job rowsA three descent upTo walkBy visit pick beats multiples risingFrom climb load cost rate jobLoss entries
 rows-are = refl
 
 table-is : TableOf (jobsOf profileA) rowsA
 table-is = subst (TableOf (jobsOf profileA)) rows-are (descent-table (jobsOf profileA) (sound-valid profileA sound .jobs))
 
 text-is : textA ≡ textOf readingA rowsA
-unfolding textA readingA profileA job rowsA three textOf listingVerdict rowsVerdict verdictOf judgeJob judgeIntervalAndStiffness firstRefused orElse refuseIf ifSound entries headerLine rowLines rowLine spacedPeriods spaced decimal digitsOf need loss pagesIn lastOf rate jobLoss
+unfolding textA readingA profileA job rowsA three textOf listingVerdict rowsVerdict verdictOf judgeJob judgeIntervalAndStiffness firstRefused orElse refuseIf ifSound entries headerLine rowLines rowLine spacedPeriods spaced decimal digitsOf need loss load cost pagesIn lastOf rate jobLoss
 text-is = refl
 
 -- Profile A's text is document 01's.
