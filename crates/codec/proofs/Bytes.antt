@@ -4,13 +4,9 @@ use mathlib.Core.Path.{subst}
 use mathlib.Core.List.{List, [], _∷_}
 use Prim.Native.Nat.{ℕ, zero, suc, _+_}
 use native.Mathlib.Nat.{zero-add, suc-add}
-use lib.ListN.{length, take, drop}
+use lib.ListN.{take, drop}
 use Rattle.codec.specs.Layout.{byteWidths}
-use Rattle.codec.proofs.Packing.{Within}
-
--- each of these is a byte
-abbrev pub Bytes : List ℕ → Type 0
-Bytes bytes = Within (byteWidths (length bytes)) bytes
+use Rattle.codec.specs.Fit.{Within}
 
 pub within-split : (k m : ℕ) (l : List ℕ) → Within (byteWidths (k + m)) l → Within (byteWidths k) (take k l) × Within (byteWidths m) (drop k l)
 within-split zero m l h = (tt, subst (λ (n : ℕ). Within (byteWidths n) l) (zero-add m) h)

@@ -9,13 +9,7 @@ use lib.Arith.{digits-lt, lt-one}
 use lib.Pow.{pow-pos, pow-add, shr-lt, split, high, low, field, mod-mod-pow}
 use lib.ListN.{length, replicate}
 use Rattle.codec.specs.Packing.{bits, pack, unpack, recut}
-
--- as many fields as widths, each within its width
-abbrev pub Within : List ℕ → List ℕ → Type 0
-Within [] [] = Unit {0}
-Within [] (f ∷ fs) = ⊥
-Within (w ∷ ws) [] = ⊥
-Within (w ∷ ws) (f ∷ fs) = (f < 2 ^ w) × Within ws fs
+use Rattle.codec.specs.Fit.{Within}
 
 pub pack-lt : (ws fs : List ℕ) → Within ws fs → pack ws fs < 2 ^ bits ws
 unfolding pack bits

@@ -1,3 +1,4 @@
+pub mod Fit
 pub mod Layout
 pub mod Packing
 pub mod RowWords

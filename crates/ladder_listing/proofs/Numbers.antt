@@ -1,7 +1,7 @@
 -- Document 01's listing of profile A: whatever the definitions allow for its 25 bytes is that text. Its nine rows are computed by
 -- the checker, and the text of these rows too. Assumes nothing.
 use mathlib.Core.Path.{_≡_, refl, subst}
-use mathlib.Core.List.{List, [], _∷_, _++_}
+use mathlib.Core.List.{List, [], _∷_}
 use Prim.Native.Nat.{ℕ}
 use lib.ListN.{replicate}
 use Rattle.model.specs.declared.Seconds.{Seconds}
@@ -21,32 +21,12 @@ use Rattle.table.specs.Descent.{upTo, descent, rowsBelow, allBudgets}
 use Rattle.table.proofs.Descent.{descent-table, no-rows}
 use Rattle.table_lookup.proofs.Laid.{few-jobs}
 use Rattle.ladder_listing.specs.declared.Listing.{Listing}
-use Rattle.ladder_line.specs.Lines.{ascii, digitsOf, decimal, spaced, spacedPeriods, headerLine, rowLine}
+use Rattle.ladder_line.specs.Lines.{digitsOf, decimal, spaced, spacedPeriods, headerLine, rowLine}
 use Rattle.ladder_listing.specs.Listing.{Prepares}
+use Rattle.ladder_listing.specs.ProfileA.{bytesA, textA}
 use Rattle.ladder_listing.specs.Text.{rowLines, listingVerdict, textOf, Text, linesTo}
 use Rattle.ladder_listing.proofs.OneText.{text-one}
 use Rattle.ladder_listing.proofs.WholeText.{lines-are-text}
-
-pub bytesA : List ℕ
-bytesA =
-    0x13
-    ∷ 0x01 ∷ 0x40 ∷ 0x19 ∷ 0x00 ∷ 0x12 ∷ 0x00 ∷ 0x04 ∷ 0x10
-    ∷ 0x02 ∷ 0xB0 ∷ 0x4A ∷ 0x00 ∷ 0x24 ∷ 0x00 ∷ 0x08 ∷ 0x10
-    ∷ 0x02 ∷ 0xD0 ∷ 0x64 ∷ 0x00 ∷ 0x48 ∷ 0x00 ∷ 0x10 ∷ 0x10
-    ∷ []
-
-pub textA : List ℕ
-textA =
-    ascii "jobs 3 rows 9\n"
-    ++ ascii "4320 3281956 25 50 100\n"
-    ++ ascii "4500 1984276 24 72 72\n"
-    ++ ascii "4696 1694382 23 69 69\n"
-    ++ ascii "4910 1406313 22 66 66\n"
-    ++ ascii "5143 1127645 21 63 63\n"
-    ++ ascii "5400 864676 20 60 60\n"
-    ++ ascii "5760 286756 25 50 50\n"
-    ++ ascii "6000 160276 24 48 48\n"
-    ++ ascii "6261 72006 23 46 46\n"
 
 job : ℕ → ℕ → ℕ → ℕ → Job
 job lo hi d g = record { lo = seconds lo; hi = seconds hi; «data» = d; metadata = g; stiffness = 1 }

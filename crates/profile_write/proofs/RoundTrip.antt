@@ -20,13 +20,15 @@ use Rattle.model.proofs.Validity.{in-range, in-range-sound, sound-valid, valid-
 use Rattle.model.proofs.Verdicts.{test-passed, both-sound, sound-passes}
 use Rattle.codec.specs.Packing.{recut}
 use Rattle.codec.specs.Layout.{headerWidths, jobWidths, byteWidths, profileLength, fieldsOf, recordBytes, profileBytes}
-use Rattle.codec.proofs.Bytes.{Bytes, within-split}
-use Rattle.codec.proofs.Packing.{Within, recut-back, recut-within, length-recut}
+use Rattle.codec.specs.Fit.{Within, Bytes}
+use Rattle.codec.proofs.Bytes.{within-split}
+use Rattle.codec.proofs.Packing.{recut-back, recut-within, length-recut}
 use Rattle.profile_read.specs.declared.Reading.{Reading}
 use Rattle.profile_read.specs.Reading.{headerOf, editionOf, countOf, recordsIn, recordsOf, jobOf, spareOf, judgeRecord, judgeHeader, verdictOfBytes, valuesOf, noProfile, Reads}
 use Rattle.profile_read.proofs.Headers.{SoundHeader, sound-header}
 use Rattle.profile_read.proofs.Records.{header-fields, edition-is, count-is, length-records}
 use Rattle.profile_write.specs.Writing.{writeVerdict, Writes}
+use Rattle.profile_write.specs.Kept.{kept}
 use Rattle.profile_write.proofs.Records.{length-record-bytes, same-bits, header-bits}
 
 -- Written, then read.
@@ -59,10 +61,6 @@ all-fields-sound : (js : List Job) (k : ℕ) → ValidJobs js → firstRefused j
 unfolding firstRefused
 all-fields-sound [] k v = refl
 all-fields-sound (j ∷ js) k v = sound-passes {v = judgeRecord (fieldsOf j) (k + 1)} _ refl (fields-sound j (k + 1) (v .0)) ∙ all-fields-sound js (k + 1) (v .1)
-
--- a profile without what stands beyond its n jobs
-abbrev pub kept : Profile → Profile
-kept p = record { n = p .n; jobs = padded noJob (jobsOf p) }
 
 -- the bytes of a valid profile are accepted, and stand for its values
 module _ (p : Profile) (v : Valid p) where

@@ -23,7 +23,7 @@ use Rattle.choose.specs.declared.Choice.{Choice}
 use Rattle.choose.specs.Choice.{answered, LeastBudget, Outcome, given, none-permitted, none-fit, Chosen}
 use Rattle.choose.proofs.OneOutcome.{one-outcome}
 use Rattle.table.specs.Table.{Rising, TableOf, Built}
-use Rattle.table.specs.Descent.{lastRow, readTable}
+use Rattle.table.specs.Reading.{lastRow, readTable}
 use Rattle.table.proofs.Best.{best-at-need, needs-follow, some-best}
 use Rattle.table.proofs.Descent.{no-rows}
 

@@ -16,8 +16,8 @@ use Rattle.model.proofs.Entries.{length-entries, entries-front}
 use Rattle.codec.specs.Packing.{bits, recut}
 use Rattle.codec.specs.Layout.{byteWidths}
 use Rattle.codec.specs.Rows.{tableWidths, tableRow}
-use Rattle.codec.proofs.Packing.{Within, recut-back, recut-within, length-recut}
-use Rattle.codec.proofs.Bytes.{Bytes}
+use Rattle.codec.specs.Fit.{Within, Bytes}
+use Rattle.codec.proofs.Packing.{recut-back, recut-within, length-recut}
 use Rattle.table.specs.Table.{tableBytes}
 use Rattle.table.proofs.Best.{need-small}
 use Rattle.table.proofs.TableRows.{getD-padded, same-entries, period-to}

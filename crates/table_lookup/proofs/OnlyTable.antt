@@ -16,11 +16,12 @@ use Rattle.model.specs.declared.Verdict.the-variants.{Sound}
 use Rattle.model.specs.Model.{pagesPerHour, jobsOf, periodsOf, Best, numberOf}
 use Rattle.model.specs.Valid.{Valid}
 use Rattle.model.proofs.Validity.{valid-sound}
-use Rattle.codec.proofs.Bytes.{Bytes}
+use Rattle.codec.specs.Fit.{Bytes}
 use Rattle.choose.specs.declared.Choice.{Choice}
 use Rattle.choose.specs.Choice.{answered, Outcome, given, none-permitted, none-fit, Chosen}
 use Rattle.table.specs.Table.{TableOf, tableBytes, Built}
-use Rattle.table.specs.Descent.{rowsBelow, allBudgets, readTable}
+use Rattle.table.specs.Descent.{rowsBelow, allBudgets}
+use Rattle.table.specs.Reading.{readTable}
 use Rattle.table.proofs.Best.{need-small}
 use Rattle.table.proofs.Descent.{descent-table}
 use Rattle.table.proofs.OneOutcome.{table-one}

@@ -16,8 +16,9 @@ use Rattle.model.proofs.Entries.{length-entries}
 use Rattle.codec.specs.Packing.{recut}
 use Rattle.codec.specs.Layout.{byteWidths}
 use Rattle.codec.specs.Rows.{tableWidths, tableRow}
-use Rattle.codec.proofs.Packing.{Within, recut-back, length-recut}
-use Rattle.codec.proofs.Bytes.{Bytes, within-split}
+use Rattle.codec.specs.Fit.{Within, Bytes}
+use Rattle.codec.proofs.Packing.{recut-back, length-recut}
+use Rattle.codec.proofs.Bytes.{within-split}
 use Rattle.table.specs.Table.{Rising, tableBytes}
 use Rattle.table.proofs.TableRows.{same-entries}
 use Rattle.table_row.specs.Table.{rowsIn, rowFields, startAt, periodsAt}

@@ -21,7 +21,8 @@ use Rattle.zones.specs.Zones.{MultiplesAfter, InIntervals, IsZone, Befor
 use Rattle.zone_walk.specs.Listing.{Span, spanOf, upTo, firstMultiplier, leastFor, greatestFor, unlessEmpty, zonesBelow, zonesIn, zonesFor}
 use Rattle.zone_walk.proofs.Climbing.{RisingNumbers, up-to-rising, up-to-in, up-to-has}
 use Rattle.zones.proofs.Flat.{in-flat, flat-has}
-use Rattle.zones.proofs.Ranges.{InRange, narrowed, narrows, in-nonempty, in-open}
+use Rattle.zones.specs.Lies.{InRange}
+use Rattle.zones.proofs.Ranges.{narrowed, narrows, in-nonempty, in-open}
 use Rattle.zones.proofs.Rising.{before-after, rising-append}
 
 -- a zone that begins with `chosen` and has its range within least .. greatest

@@ -2,7 +2,7 @@
 -- Assumes nothing.
 use mathlib.Core.Path.{_≡_, refl, sym, _∙_, ap, ap₂, subst}
 use mathlib.Core.Logic.{_↔_}
-use mathlib.Core.List.{List, [], _∷_, map, List·Memᴰ, List·Memᴰ·head, List·Memᴰ·not-nil, head-eq-of-cons-eq, tail-eq-of-cons-eq}
+use mathlib.Core.List.{List, [], _∷_, List·Memᴰ, List·Memᴰ·head, List·Memᴰ·not-nil, head-eq-of-cons-eq, tail-eq-of-cons-eq}
 use Prim.Native.Nat.{ℕ, zero, suc, _+_, _*_, _-_, _/_, _%_, _≤_}
 use native.Mathlib.Omega.{arith}
 use native.Mathlib.Nat.{le-refl, one-mul, mul-assoc, mul-mod-left, div-add-mod', mul-div-cancel, mod-one, suc-ne-zero}
@@ -13,25 +13,15 @@ use Rattle.model.specs.Model.{seconds, PermittedAfter, Permitted}
 use Rattle.model.specs.Valid.{ValidJobs}
 use Rattle.zone_walk.specs.Zone.{Zone}
 use Rattle.zones.specs.Zones.{MultiplesAfter, InIntervals, IsZone}
+use Rattle.zones.specs.Lies.{periodsFor, LiesIn}
 use Rattle.zone_walk.specs.Listing.{zonesFor}
-use Rattle.zones.proofs.Ranges.{InRange}
 use Rattle.zones.proofs.Listing.{same-zone, front, zones-have, listing-is}
-
--- the periods that multipliers give at a first period
-abbrev pub periodsAt : List ℕ → ℕ → List Seconds
-periodsAt ms t = map (λ a. seconds (a * t)) ms
-
--- a list of periods lies in a zone
-pub record LiesIn (ts : List Seconds) (z : Zone) : Type 0 where
-  pub first : ℕ
-  pub inside : InRange z first
-  pub periods : ts ≡ periodsAt (z .multipliers) first
 
 multiple-is : (t p : ℕ) → t % p ≡ 0 → t ≡ t / p * p
 multiple-is t p e = let d = div-add-mod' t p in omega arith
 
 -- multipliers in their intervals give permitted periods
-multiplied : (js : List Job) (ms : List ℕ) (a t : ℕ) → MultiplesAfter a ms → InIntervals js ms t → PermittedAfter (seconds (a * t)) js (periodsAt ms t)
+multiplied : (js : List Job) (ms : List ℕ) (a t : ℕ) → MultiplesAfter a ms → InIntervals js ms t → PermittedAfter (seconds (a * t)) js (periodsFor ms t)
 multiplied [] [] a t c h = tt
 multiplied [] (m ∷ ms) a t c h = absurd h
 multiplied (j ∷ js) [] a t c h = absurd h
@@ -46,12 +36,12 @@ zone-permits (j ∷ js) {z} h v a =
     let t = z .least .0 in
     let f = front (j ∷ js) z h a in
     let k : InIntervals (j ∷ js) (1 ∷ f .0) t = rw (f .1) at (a .range t .0 (le-refl _, a .some)) in
-    let p : Permitted (j ∷ js) (periodsAt (1 ∷ f .0) t) = (record { above = k .0; below = k .1; multiple = mod-one (1 * t) }, multiplied js (f .0) 1 t (f .2) (k .2)) in
-    (periodsAt (z .multipliers) t, rw (f .1) p, record { first = t; inside = (le-refl _, a .some); periods = refl })
+    let p : Permitted (j ∷ js) (periodsFor (1 ∷ f .0) t) = (record { above = k .0; below = k .1; multiple = mod-one (1 * t) }, multiplied js (f .0) 1 t (f .2) (k .2)) in
+    (periodsFor (z .multipliers) t, rw (f .1) p, record { first = t; inside = (le-refl _, a .some); periods = refl })
 
 -- permitted periods after a * t are multipliers times t
 divided : (js : List Job) (ts : List Seconds) (a t : ℕ) → ValidJobs js → 1 ≤ t → PermittedAfter (seconds (a * t)) js ts
-    → (ms : List ℕ) × MultiplesAfter a ms × InIntervals js ms t × (ts ≡ periodsAt ms t)
+    → (ms : List ℕ) × MultiplesAfter a ms × InIntervals js ms t × (ts ≡ periodsFor ms t)
 divided [] [] a t v pos p = ([], tt, tt, refl)
 divided [] (u ∷ ts) a t v pos p = absurd p
 divided (j ∷ js) [] a t v pos p = absurd p
@@ -80,7 +70,7 @@ permitted-lies (j ∷ js) (u ∷ ts) v h p =
     (z .0, z .1, record { first = t; inside = a .range t .1 (rw (z .2) here); periods = rw (z .2) (ap₂ _∷_ (ap seconds (sym (one-mul t))) (r .3)) })
 
 -- periods over a first period are the multipliers
-same-multipliers : (xs ys : List ℕ) (t : ℕ) → 1 ≤ t → periodsAt xs t ≡ periodsAt ys t → xs ≡ ys
+same-multipliers : (xs ys : List ℕ) (t : ℕ) → 1 ≤ t → periodsFor xs t ≡ periodsFor ys t → xs ≡ ys
 same-multipliers [] [] t pos e = refl
 same-multipliers [] (y ∷ ys) t pos e = absurd (suc-ne-zero _ (sym (ap length e)))
 same-multipliers (x ∷ xs) [] t pos e = absurd (suc-ne-zero _ (ap length e))
@@ -94,11 +84,11 @@ lies-in-one [] ts h v a b k l = absurd (omega arith)
 lies-in-one (j ∷ js) ts {y} {z} h v a b k l =
     let f = front (j ∷ js) y h a in
     let g = front (j ∷ js) z h b in
-    let e : periodsAt (1 ∷ f .0) (k .first) ≡ periodsAt (1 ∷ g .0) (l .first) = ap (λ (ms : List ℕ). periodsAt ms (k .first)) (sym (f .1)) ∙ sym (k .periods) ∙ l .periods ∙ ap (λ (ms : List ℕ). periodsAt ms (l .first)) (g .1) in
+    let e : periodsFor (1 ∷ f .0) (k .first) ≡ periodsFor (1 ∷ g .0) (l .first) = ap (λ (ms : List ℕ). periodsFor ms (k .first)) (sym (f .1)) ∙ sym (k .periods) ∙ l .periods ∙ ap (λ (ms : List ℕ). periodsFor ms (l .first)) (g .1) in
     let t : k .first ≡ l .first = (let d : 1 * k .first ≡ 1 * l .first = ap (λ (s : Seconds). s .0) (head-eq-of-cons-eq e) in omega arith) in
     let i : InIntervals (j ∷ js) (1 ∷ f .0) (k .first) = rw (f .1) at (a .range (k .first) .0 (k .inside)) in
     let pos : 1 ≤ k .first = omega arith in
-    same-zone (j ∷ js) a b (f .1 ∙ same-multipliers (1 ∷ f .0) (1 ∷ g .0) (k .first) pos (e ∙ ap (periodsAt (1 ∷ g .0)) (sym t)) ∙ sym (g .1))
+    same-zone (j ∷ js) a b (f .1 ∙ same-multipliers (1 ∷ f .0) (1 ∷ g .0) (k .first) pos (e ∙ ap (periodsFor (1 ∷ g .0)) (sym t)) ∙ sym (g .1))
 
 -- A zone's range is whole: one less and one more put some job outside its interval.
 pub range-whole : (js : List Job) {z : Zone} → IsZone js z → (1 ≤ z .least .0 → InIntervals js (z .multipliers) (z .least .0 - 1) → ⊥) × (InIntervals js (z .multipliers) (z .greatest .0 + 1) → ⊥)

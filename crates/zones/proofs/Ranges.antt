@@ -11,10 +11,6 @@ use Rattle.model.proofs.Rounding.{round-up-le}
 use Rattle.zone_walk.specs.Zone.{Zone}
 use Rattle.zone_walk.specs.Listing.{Span, leastFor, greatestFor, unlessEmpty}
 
--- a first period in a zone's range
-abbrev pub InRange : Zone → ℕ → Type 0
-InRange z t = (z .least .0 ≤ t) × (t ≤ z .greatest .0)
-
 pub record Narrowed (s : Span) (least greatest m t : ℕ) : Type 0 where
   pub from : least ≤ t
   pub to : t ≤ greatest

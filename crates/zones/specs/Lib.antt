@@ -1,2 +1,3 @@
 pub mod Zones
 pub mod ZoneRows
+pub mod Lies
