@@ -1,6 +1,6 @@
 -- The answer to any case can be computed, and what is computed is right: it meets the contract, which allows one outcome.
 -- Assumes nothing.
-use mathlib.Core.Path.{_≡_, refl, sym, _∙_, ap, subst}
+use mathlib.Core.Path.{_≡_, refl, sym, _∙_, ap}
 use mathlib.Core.List.{List, [], _++_}
 use mathlib.Core.Bool.{Bool, true, false}
 use Prim.Native.Nat.{ℕ, _+_, _*_, _-_, _/_, _≤_}
@@ -15,13 +15,14 @@ use Rattle.model.specs.declared.Verdict.{Verdict}
 use Rattle.model.specs.declared.Verdict.the-variants.{Sound, NoPeriods, Room}
 use Rattle.model.specs.Model.{seconds, pagesPerHour, jobsOf, numberOf, refuseIf, orElse, ifSound, verdictOf, rowsVerdict}
 use Rattle.model.proofs.Validity.{sound-valid}
-use Rattle.model.proofs.Verdicts.{sound-of-zero, beside-sound}
+use Rattle.model.proofs.Verdicts.{sound-of-zero}
 use Rattle.codec.specs.Layout.{profileLength, profileBytes}
 use Rattle.profile_read.specs.declared.Reading.{Reading}
 use Rattle.profile_read.specs.Reading.{verdictOfBytes, valuesOf, noProfile}
 use Rattle.profile_read.proofs.OneOutcome.{read-profile-one-outcome}
 use Rattle.profile_write.specs.Writing.{writeVerdict, Writes}
 use Rattle.profile_write.proofs.OneOutcome.{write-profile-one-outcome}
+use Rattle.model.proofs.ProfileFirst.{computed-first}
 use Rattle.score.proofs.Computed.{scoreFor, score-meets}
 use Rattle.score.proofs.OneOutcome.{score-one-outcome}
 use Rattle.choose.specs.declared.Choice.{Choice}
@@ -52,22 +53,9 @@ use Rattle.cases.specs.Case.{Case, reading, writing, writingIn, permitti
 unfoldable pub choiceFor : Profile → ℕ → Choice
 choiceFor p b = ifSound (verdictOf p) (settle (walk (pick b) (jobsOf p) start nothing) (walkDown lessNeed (jobsOf p) start none)) (refused (verdictOf p))
 
-beside-unsound : {A : Type 0} (v : Verdict) (answer other : A) → (v ≡ Sound → ⊥) → ifSound v answer other ≡ other
-unfolding ifSound
-beside-unsound v answer other unsound = go (eqb (numberOf v) 0) refl
-  where
-    go : (t : Bool) → eqb (numberOf v) 0 ≡ t → ifSound v answer other ≡ other
-    go true e = absurd (unsound (sound-of-zero v (eqb-true _ 0 e)))
-    go false e = rw e
-
 choice-meets : (p : Profile) (b : ℕ) → Chosen p (pagesPerHour b) (choiceFor p b)
 unfolding choiceFor
-choice-meets p b = record {
-  own = beside-unsound (verdictOf p) _ _;
-  sound = λ e.
-      (let v = sound-valid p e .jobs in
-      subst (Outcome (jobsOf p) (pagesPerHour b)) (beside-sound _ _ (sym e)) (settled (jobsOf p) (pagesPerHour b) _ _ (walk-best (jobsOf p) (pagesPerHour b) v) (walk-least down-lists (jobsOf p) v)));
-}
+choice-meets p b = computed-first _ (λ e. (let v = sound-valid p e .jobs in settled (jobsOf p) (pagesPerHour b) _ _ (walk-best (jobsOf p) (pagesPerHour b) v) (walk-least down-lists (jobsOf p) v)))
 
 -- reading
 unfoldable pub readingFor : List ℕ → Reading

@@ -1,18 +1,17 @@
 -- Two best lists are no worse than one another, so they agree in loss, need and every period; each other case leaves one answer.
 -- Assumes nothing.
-use mathlib.Core.Path.{_≡_, refl, sym, _∙_, ap, ap₂}
+use mathlib.Core.Path.{_≡_, refl, sym, ap, ap₂}
 use mathlib.Core.List.{List, [], _∷_}
 use Prim.Native.Nat.{ℕ}
 use native.Mathlib.Omega.{arith}
-use native.Mathlib.Decide.{ℕ-discrete}
 use Rattle.model.specs.declared.Seconds.{Seconds}
 use Rattle.model.specs.declared.PagesPerHour.{PagesPerHour}
 use Rattle.model.specs.declared.Job.{Job}
 use Rattle.model.specs.declared.Profile.{Profile}
 use Rattle.model.specs.declared.Verdict.{Verdict}
-use Rattle.model.specs.declared.Verdict.the-variants.{Sound, Budget}
-use Rattle.model.specs.Model.{seconds, pagesPerHour, need, loss, NotAfter, NoWorse, Best, numberOf, refuseIf, orElse, verdictOf}
-use Rattle.model.proofs.Verdicts.{both-sound}
+use Rattle.model.specs.declared.Verdict.the-variants.{Budget}
+use Rattle.model.specs.Model.{seconds, pagesPerHour, need, loss, NotAfter, NoWorse, Best}
+use Rattle.model.proofs.ProfileFirst.{one-first}
 use Rattle.choose.specs.declared.Choice.{Choice}
 use Rattle.choose.specs.Choice.{answered, refused, LeastBudget, Outcome, given, none-permitted, none-fit, Chosen}
 
@@ -54,20 +53,5 @@ one-outcome (none-fit l unfit) (given y) = absurd (unfit _ (y .permitted) (y .fi
 one-outcome (none-fit l unfit) (none-permitted no-list) = absurd (no-list _ (l .enough .1))
 one-outcome (none-fit l unfit) (none-fit l′ unfit′) = ap (λ (m : PagesPerHour). refused (Budget m)) (one-least-budget l l′)
 
-zero-passes : (v : Verdict) → numberOf v ≡ 0 → orElse v Sound ≡ Sound
-unfolding orElse refuseIf
-zero-passes v e = rw e
-
-sound-or-not : (v : Verdict) → Dec (v ≡ Sound)
-sound-or-not v = go (ℕ-discrete (numberOf v) 0)
-  where
-    go : Dec (numberOf v ≡ 0) → Dec (v ≡ Sound)
-    go (yes e) = yes (both-sound v (zero-passes v e) .0)
-    go (no ne) = no (λ e. ne (ap numberOf e))
-
 pub choose-one-outcome : (p : Profile) (b : PagesPerHour) {r s : Choice} → Chosen p b r → Chosen p b s → r ≡ s
-choose-one-outcome p b {r} {s} one other = go (sound-or-not (verdictOf p))
-  where
-    go : Dec (verdictOf p ≡ Sound) → r ≡ s
-    go (yes e) = one-outcome (one .sound e) (other .sound e)
-    go (no ne) = one .own ne ∙ sym (other .own ne)
+choose-one-outcome p b one other = one-first one-outcome one other

@@ -1,6 +1,5 @@
 -- What `choose` may answer, in the words of document 01; cited by the public contract.
 -- Assumes nothing.
-use mathlib.Core.Path.{_≡_}
 use mathlib.Core.List.{List}
 use Prim.Native.Nat.{_≤_}
 use lib.ListN.{replicate}
@@ -10,7 +9,7 @@ use Rattle.model.specs.declared.Job.{Job}
 use Rattle.model.specs.declared.Profile.{Profile}
 use Rattle.model.specs.declared.Verdict.{Verdict}
 use Rattle.model.specs.declared.Verdict.the-variants.{Sound, NoPeriods, Budget}
-use Rattle.model.specs.Model.{seconds, pagesPerHour, jobsOf, Permitted, need, FitsBudget, loss, Best, verdictOf, padded}
+use Rattle.model.specs.Model.{seconds, pagesPerHour, jobsOf, Permitted, need, FitsBudget, loss, Best, padded, ProfileFirst}
 use Rattle.choose.specs.declared.Choice.{Choice}
 
 -- These periods, with their need and their loss (Quantities, on choosing).
@@ -33,6 +32,5 @@ pub data Outcome (js : List Job) (b : PagesPerHour) : Choice → Type 0 where
   none-fit : {m : PagesPerHour} → LeastBudget js m → ((ts : List Seconds) → Permitted js ts → FitsBudget js ts b → ⊥) → Outcome js b (refused (Budget m))
 
 -- What is answered for a profile and a budget: the profile's own refusal, and only then the rest (Refusal numbers, order).
-pub record Chosen (p : Profile) (b : PagesPerHour) (r : Choice) : Type 0 where
-  pub own : (verdictOf p ≡ Sound → ⊥) → r ≡ refused (verdictOf p)
-  pub sound : verdictOf p ≡ Sound → Outcome (jobsOf p) b r
+abbrev pub Chosen : Profile → PagesPerHour → Choice → Type 0
+Chosen p b r = ProfileFirst p refused (Outcome (jobsOf p) b) r

@@ -17,6 +17,11 @@ sound-or-not v = go (ℕ-discrete (numberOf v) 0)
     go (yes e) = yes (sound-of-zero v e)
     go (no ne) = no (λ e. ne (ap numberOf e))
 
+-- what stands beside a verdict that is not sound
+pub beside-unsound : {A : Type 0} {v : Verdict} (answer none : A) → (v ≡ Sound → ⊥) → ifSound v answer none ≡ none
+unfolding ifSound
+beside-unsound {v} answer none unsound = rw (ne-eqb (numberOf v) 0 (λ z. unsound (sound-of-zero v z)))
+
 module _ {A : Type 0} {p : Profile} {refused : Verdict → A} {Rest : A → Type 0} where
   pub own-refused : (v : Verdict) → Refuses v → v ≡ verdictOf p → ProfileFirst p refused Rest (refused v)
   own-refused v h e = record { own = λ _. ap refused e; sound = λ s. absurd (subst (λ (w : Verdict). T (ltb 0 (numberOf w))) (e ∙ s) h) }
@@ -26,9 +31,8 @@ module _ {A : Type 0} {p : Profile} {refused : Verdict → A} {Rest : A → Type
 
   -- the rest, computed, unless the profile is refused
   pub computed-first : (r : A) → (verdictOf p ≡ Sound → Rest r) → ProfileFirst p refused Rest (ifSound (verdictOf p) r (refused (verdictOf p)))
-  unfolding ifSound
   computed-first r rest = record {
-    own = λ unsound. rw (ne-eqb (numberOf (verdictOf p)) 0 (λ z. unsound (sound-of-zero (verdictOf p) z)));
+    own = beside-unsound r (refused (verdictOf p));
     sound = λ e. subst Rest (beside-sound r (refused (verdictOf p)) (sym e)) (rest e);
   }
 

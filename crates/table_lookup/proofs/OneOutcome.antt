@@ -2,22 +2,23 @@
 -- and else it is the row of the number told. A table has one first bad row, and one row that answers.
 -- Assumes nothing.
 use mathlib.Core.Path.{_≡_, refl, _∙_, sym, ap, subst}
+use mathlib.Core.Logic.{_↔_}
 use mathlib.Core.List.{List, []}
 use mathlib.Core.Bool.{Bool, true, false}
-use Prim.Native.Nat.{ℕ, zero, suc, _+_, _*_, _-_, _≤_}
+use Prim.Native.Nat.{ℕ, _+_, _*_, _-_, _≤_}
 use native.Mathlib.Omega.{arith}
 use lib.ListN.{length, take, drop, length-drop}
 use lib.Seq.{length-take-le}
-use lib.Dec.{T, ltb}
-use borrow.Author.Tests.{eqb-false, lt-ltb, ltb-true, ltb-false}
+use lib.Dec.{ltb}
+use borrow.Author.Tests.{eqb-false, ltb-true, ltb-false}
 use Rattle.model.specs.declared.PagesPerHour.{PagesPerHour}
 use Rattle.model.specs.declared.Profile.{Profile}
 use Rattle.model.specs.declared.Counted.{Counted}
 use Rattle.model.specs.declared.Verdict.{Verdict}
 use Rattle.model.specs.declared.Verdict.the-variants.{Sound, Row}
 use Rattle.model.specs.Model.{numberOf, ifSound, verdictOf}
-use Rattle.model.proofs.ProfileFirst.{sound-or-not, one-first}
-use Rattle.model.proofs.Verdicts.{Refuses, beside-sound, beside-refusal, sound-of-zero}
+use Rattle.model.proofs.ProfileFirst.{sound-or-not, beside-unsound, one-first}
+use Rattle.model.proofs.Verdicts.{Refuses, beside-sound}
 use Rattle.table_check.specs.Formed.{FirstBadRow}
 use Rattle.table_lookup.specs.Lookup.{Answers, noRow, Finds, wrong-length, bad-row, below-first, answering, Locates, JudgesLookup, LooksUp}
 use Rattle.table_lookup.proofs.Finding.{one-answers, below-none}
@@ -125,8 +126,8 @@ module _ (p : Profile) (bytes : List ℕ) (lies : ℕ × ℕ) (b : PagesPerHour)
   same-verdict : v ≡ part .found .verdict
   same-verdict = told .verdict ∙ ap (λ (c : Counted). c .verdict) (locate-one-outcome p bytes b (told .located) (part .located))
 
-  pub refused-empty : Refuses v → r ≡ []
-  refused-empty h = part .holds ∙ sym (beside-refusal _ _ h same-verdict)
+  pub refused-empty : (v ≡ Sound → ⊥) → r ≡ []
+  refused-empty unsound = part .holds ∙ beside-unsound _ _ (λ e. unsound (same-verdict ∙ e))
 
   pub sound-sixteen : v ≡ Sound → length r ≡ 16
   sound-sixteen e =
@@ -134,17 +135,9 @@ module _ (p : Profile) (bytes : List ℕ) (lies : ℕ × ℕ) (b : PagesPerHour)
       let there = sound-answers p bytes b (part .located) (sym same-verdict ∙ e) .there in
       ap length (part .holds ∙ sym (beside-sound _ _ (sym e ∙ same-verdict))) ∙ length-take-le 16 (drop (16 * k) bytes) (omega (arith, length-drop (16 * k) bytes))
 
--- a verdict that is not sound is a refusal
-refuses-of : (v : Verdict) {A : Type 0} → (v ≡ Sound → A → ⊥) → A → Refuses v
-refuses-of v none a = positive (numberOf v) refl
-  where
-    positive : (n : ℕ) → numberOf v ≡ n → Refuses v
-    positive zero e = absurd (none (sound-of-zero v e) a)
-    positive (suc n) e = subst T (sym (lt-ltb 0 (numberOf v) (omega arith))) tt
-
 -- the part is empty exactly when the verdict is a refusal
-pub lookups-agree : (p : Profile) (bytes : List ℕ) (lies : ℕ × ℕ) (b : PagesPerHour) {r : List ℕ} {at : ℕ × ℕ} {v : Verdict} → LooksUp p bytes lies b r at → JudgesLookup p bytes b v → (Refuses v → r ≡ []) × (r ≡ [] → Refuses v)
-lookups-agree p bytes lies b {r} {at} {v} part told = (refused-empty p bytes lies b part told, refuses-of v (λ (e : v ≡ Sound) (none : r ≡ []). eqb-false 16 0 refl (sym (sound-sixteen p bytes lies b part told e) ∙ ap length none)))
+pub lookups-agree : (p : Profile) (bytes : List ℕ) (lies : ℕ × ℕ) (b : PagesPerHour) {r : List ℕ} {at : ℕ × ℕ} {v : Verdict} → LooksUp p bytes lies b r at → JudgesLookup p bytes b v → (v ≡ Sound → ⊥) ↔ (r ≡ [])
+lookups-agree p bytes lies b part told = (refused-empty p bytes lies b part told, λ none e. eqb-false 16 0 refl (sym (sound-sixteen p bytes lies b part told e) ∙ ap length none))
 
 -- where a row is handed back, it is the row of the number told beside it
 pub located-part : (p : Profile) (bytes : List ℕ) (lies : ℕ × ℕ) (b : PagesPerHour) {r : List ℕ} {at : ℕ × ℕ} {l : Counted} → LooksUp p bytes lies b r at → Locates p bytes b l → l .verdict ≡ Sound → r ≡ take 16 (drop (16 * (l .count - 1)) bytes)
