@@ -86,12 +86,15 @@ noValues v = record { verdict = v; profile = noProfile }
 abbrev pub eight : List ℕ → List Seconds
 eight ts = padded (seconds 0) (map seconds ts)
 
--- A choice and a score: need, loss, periods.
+-- A choice and a score: need, loss, periods; and no score beside a refusal.
 abbrev pub plan : ℕ → ℕ → List ℕ → Choice
 plan q l ts = record { verdict = Sound; periods = eight ts; need = pagesPerHour q; loss = l }
 
 abbrev pub scored : ℕ → ℕ → Scored
 scored q l = record { verdict = Sound; need = pagesPerHour q; loss = l }
+
+abbrev pub noScore : Verdict → Scored
+noScore v = record { verdict = v; need = pagesPerHour 0; loss = 0 }
 
 -- No permitted periods fit a budget below this one.
 abbrev pub below : ℕ → Verdict

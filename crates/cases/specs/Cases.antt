@@ -6,10 +6,10 @@ use lib.ListN.{take, drop}
 use Rattle.model.specs.declared.Seconds.{Seconds}
 use Rattle.model.specs.declared.Job.{Job}
 use Rattle.model.specs.declared.Profile.{Profile}
-use Rattle.model.specs.declared.Verdict.the-variants.{Sound, NoBytes, Edition, JobCount, Length, Interval, Spare, NoPeriods, Room, Row}
+use Rattle.model.specs.declared.Verdict.the-variants.{Sound, NoBytes, Edition, JobCount, Length, Interval, Spare, NoPeriods, Room, Row, Periods}
 use Rattle.model.specs.Model.{seconds}
 use Rattle.choose.specs.Choice.{refused}
-use Rattle.cases.specs.Case.{Case, reading, writing, writingIn, permitting, scoring, choosing, listing, listingIn, building, buildingIn, lookingUp, job, interval, profile, values, noValues, eight, plan, scored, below, number, noNumber, lent, rows}
+use Rattle.cases.specs.Case.{Case, reading, writing, writingIn, permitting, scoring, choosing, listing, listingIn, building, buildingIn, lookingUp, job, interval, profile, values, noValues, eight, plan, scored, noScore, below, number, noNumber, lent, rows}
 
 -- The profile that document 01 works with, as values and as bytes.
 abbrev pub jobsA : List Job
@@ -146,6 +146,8 @@ cases =
     ∷ choosing (profile (interval 10 10 ∷ job 10 40 20 0 32 ∷ interval 20 30 ∷ [])) 100000 (plan 7740 0 (10 ∷ 10 ∷ 20 ∷ []))
     -- a stiffness other than 1: 3 times the square of 1,028 less 102
     ∷ scoring (profile (job 7 70 1 1 3 ∷ [])) (eight (70 ∷ [])) (scored 103 2572428)
+    -- periods that are not permitted: the second is no multiple of the first
+    ∷ scoring profileA (eight (25 ∷ 51 ∷ 100 ∷ [])) (noScore (Periods 2))
     -- five zones and nine lists
     ∷ listing (profile (interval 6 10 ∷ interval 11 22 ∷ interval 19 40 ∷ [])) (number 5) fiveZones
     ∷ permitting (profile (interval 6 10 ∷ interval 11 22 ∷ interval 19 40 ∷ [])) Sound nineLists
