@@ -126,6 +126,41 @@ def table_rows(jobs):
     return b"".join(int(bits, 2).to_bytes(16, "big") for bits in fields)
 
 
+def rows_of(n, jobs, rows):
+    """The verdict and the rows of a profile's zones or table, before room is asked for."""
+    verdict = judged_values(n, jobs)
+    data = b"" if verdict else rows(jobs[:n])
+    return verdict or (None if data else (9, 0)), data
+
+
+def put(verdict, data, size, old):
+    """The verdict, the count and the buffer when data, in pieces of `size` bytes, go into a lent one."""
+    count = len(data) // size
+    if not verdict and len(old) // size < count:
+        verdict = (11, count)
+    return (verdict, 0, old) if verdict else (None, count, data + old[len(data):])
+
+
+def looked_up(n, jobs, table, budget):
+    """The verdict, and the number from 1 of the row that answers."""
+    verdict = judged_values(n, jobs)
+    if verdict:
+        return verdict, 0
+    if not table or len(table) % 16:
+        return (12, 0), 0
+    rows = []
+    for number in range(1, len(table) // 16 + 1):
+        bits = "".join(f"{byte:08b}" for byte in table[16 * number - 16:16 * number])
+        start, periods = int(bits[:32], 2), [int(bits[at:at + 12], 2) for at in range(32, 128, 12)]
+        refusal, need, loss = scored(jobs[:n], periods)
+        if refusal or any(periods[n:]) or start != need or rows and not (start > rows[-1][0] and loss < rows[-1][1]):
+            return (12, number), 0
+        rows.append((start, loss))
+    if budget < rows[0][0]:
+        return (10, rows[0][0]), 0
+    return None, max(number for number, (start, _) in enumerate(rows, 1) if start <= budget)
+
+
 def listing(data, most=4096):
     """The ladder program's text for a profile's bytes."""
     verdict, jobs = unpacked(data)
