@@ -5,7 +5,7 @@ use mathlib.Core.List.{List, [], _∷_, map, flatMap, List·Memᴰ, List·Memᴰ
 use Rattle.model.specs.Model.{entries, load, cost, lastOf, pagesIn, need, rate, jobLoss, loss, verdictOf, rowsVerdict, refuseIf, orElse, ifSound, firstRefused, judgeIntervalAndStiffness, judgeJob, allows}
 use Rattle.codec.specs.Packing.{bits, pack, unpack, recut}
 use Rattle.codec.specs.Layout.{recordBytes, profileBytes}
-use Rattle.codec.specs.Rows.{tableRow}
+use Rattle.table_row.specs.Table.{tableRow}
 use Rattle.profile_read.specs.Reading.{headerOf, recordsIn, judgeRecord, judgeHeader, verdictOfBytes}
 use Rattle.profile_write.specs.Writing.{writeVerdict}
 use Rattle.score.specs.Judging.{judgePeriod, firstUnpermitted}

@@ -10,6 +10,7 @@ use lib.Pow.{pow-pos, pow-add, high, low, shr-shr, field, mod-mod-pow}
 use lib.ListN.{length, take, drop, length-append, length-drop}
 use lib.Seq.{length-take-le, take-at, take-add, drop-drop, drop-append-add}
 use borrow.Author.Tests.{lt-ltb, le-ltb}
+use Rattle.model.specs.Model.{rowSize}
 use Rattle.codec.specs.Packing.{bits, pack, unpack, recut}
 use Rattle.codec.specs.Layout.{byteWidths}
 use Rattle.codec.specs.RowWords.{rowBytes, withRow, wordsAt}
@@ -34,47 +35,47 @@ unpack-append (v ∷ vs) us x h =
     ap₂ _∷_ top (ih ∙ ap₂ (λ (a b : ℕ). unpack vs a ++ unpack us b) mid end)
 
 -- fields that pack to two words have those words' bytes
-pub row-of-words : (ws fs : List ℕ) (h l : ℕ) → pack ws fs ≡ h * 2 ^ 64 + l → h < 2 ^ 64 → l < 2 ^ 64 → recut ws (byteWidths 16) fs ≡ rowBytes h l
+pub row-of-words : (ws fs : List ℕ) (h l : ℕ) → pack ws fs ≡ h * 2 ^ 64 + l → h < 2 ^ 64 → l < 2 ^ 64 → recut ws (byteWidths rowSize) fs ≡ rowBytes h l
 unfolding recut rowBytes bits
 row-of-words ws fs h l e hh hl =
     let small : h * 2 ^ 64 + l < 2 ^ 64 * 2 ^ 64 = digits-lt hh hl in
-    ap (unpack (byteWidths 16)) e
+    ap (unpack (byteWidths rowSize)) e
     ∙ unpack-append (byteWidths 8) (byteWidths 8) (h * 2 ^ 64 + l) small
     ∙ ap₂ (λ (a b : ℕ). unpack (byteWidths 8) a ++ unpack (byteWidths 8) b) (high h 64 hl) (low h 64 hl)
 
-pub length-row : (h l : ℕ) → length (rowBytes h l) ≡ 16
+pub length-row : (h l : ℕ) → length (rowBytes h l) ≡ rowSize
 unfolding rowBytes
 length-row h l = length-append (unpack (byteWidths 8) h) (unpack (byteWidths 8) l) ∙ ap₂ _+_ (length-unpack (byteWidths 8) h) (length-unpack (byteWidths 8) l)
 
 -- one word and then the next
-pub row-put : (old mid new : List ℕ) (k h l : ℕ) → k < length old / 16 → length mid ≡ length old
-    → mid ≡ take (16 * k) old ++ (unpack (byteWidths 8) h ++ drop (16 * k + 8) old)
-    → new ≡ take (16 * k + 8) mid ++ (unpack (byteWidths 8) l ++ drop (16 * k + 8 + 8) mid)
+pub row-put : (old mid new : List ℕ) (k h l : ℕ) → k < length old / rowSize → length mid ≡ length old
+    → mid ≡ take (rowSize * k) old ++ (unpack (byteWidths 8) h ++ drop (rowSize * k + 8) old)
+    → new ≡ take (rowSize * k + 8) mid ++ (unpack (byteWidths 8) l ++ drop (rowSize * k + 8 + 8) mid)
     → new ≡ withRow old k (rowBytes h l)
 unfolding withRow rowBytes
 row-put old mid new k h l room same first second =
     let H = unpack (byteWidths 8) h in
     let L = unpack (byteWidths 8) l in
-    let P = take (16 * k) old in
-    let D = drop (16 * k + 8) old in
-    let front : length P ≡ 16 * k = length-take-le (16 * k) old (omega arith) in
-    let size : length (P ++ H) ≡ 16 * k + 8 = length-append P H ∙ ap₂ _+_ front (length-unpack (byteWidths 8) h) in
+    let P = take (rowSize * k) old in
+    let D = drop (rowSize * k + 8) old in
+    let front : length P ≡ rowSize * k = length-take-le (rowSize * k) old (omega arith) in
+    let size : length (P ++ H) ≡ rowSize * k + 8 = length-append P H ∙ ap₂ _+_ front (length-unpack (byteWidths 8) h) in
     let joined : mid ≡ P ++ H ++ D = first ∙ sym (append-assoc P H D) in
-    let before-it : take (16 * k + 8) mid ≡ P ++ H = ap (take (16 * k + 8)) joined ∙ take-at (P ++ H) D (16 * k + 8) size in
-    let place : 16 * k + 8 + 8 ≡ length (P ++ H) + 8 = omega arith in
-    let next : 16 * k + 8 + 8 ≡ 16 * k + 16 = omega arith in
-    let after-it : drop (16 * k + 8 + 8) mid ≡ drop (16 * k + 16) old = ap (drop (16 * k + 8 + 8)) joined ∙ ap (λ (n : ℕ). drop n (P ++ H ++ D)) place ∙ drop-append-add (P ++ H) D 8 ∙ drop-drop 8 (16 * k + 8) old ∙ ap (λ (n : ℕ). drop n old) next in
-    rw (lt-ltb k (length old / 16) room) (second ∙ ap₂ (λ (a b : List ℕ). a ++ (L ++ b)) before-it after-it ∙ append-assoc P H (L ++ drop (16 * k + 16) old) ∙ ap (λ (m : List ℕ). P ++ m) (sym (append-assoc H L (drop (16 * k + 16) old))))
+    let before-it : take (rowSize * k + 8) mid ≡ P ++ H = ap (take (rowSize * k + 8)) joined ∙ take-at (P ++ H) D (rowSize * k + 8) size in
+    let place : rowSize * k + 8 + 8 ≡ length (P ++ H) + 8 = omega arith in
+    let next : rowSize * k + 8 + 8 ≡ rowSize * k + rowSize = omega arith in
+    let after-it : drop (rowSize * k + 8 + 8) mid ≡ drop (rowSize * k + rowSize) old = ap (drop (rowSize * k + 8 + 8)) joined ∙ ap (λ (n : ℕ). drop n (P ++ H ++ D)) place ∙ drop-append-add (P ++ H) D 8 ∙ drop-drop 8 (rowSize * k + 8) old ∙ ap (λ (n : ℕ). drop n old) next in
+    rw (lt-ltb k (length old / rowSize) room) (second ∙ ap₂ (λ (a b : List ℕ). a ++ (L ++ b)) before-it after-it ∙ append-assoc P H (L ++ drop (rowSize * k + rowSize) old) ∙ ap (λ (m : List ℕ). P ++ m) (sym (append-assoc H L (drop (rowSize * k + rowSize) old))))
 
 -- no such row
-pub row-out : (old : List ℕ) (k h l : ℕ) → length old / 16 ≤ k → old ≡ withRow old k (rowBytes h l)
+pub row-out : (old : List ℕ) (k h l : ℕ) → length old / rowSize ≤ k → old ≡ withRow old k (rowBytes h l)
 unfolding withRow
-row-out old k h l room = rw (le-ltb k (length old / 16) room)
+row-out old k h l room = rw (le-ltb k (length old / rowSize) room)
 
 -- the row within the buffer
-pub row-in : (old row : List ℕ) (k : ℕ) → k < length old / 16 → withRow old k row ≡ take (16 * k) old ++ (row ++ drop (16 * k + 16) old)
+pub row-in : (old row : List ℕ) (k : ℕ) → k < length old / rowSize → withRow old k row ≡ take (rowSize * k) old ++ (row ++ drop (rowSize * k + rowSize) old)
 unfolding withRow
-row-in old row k room = rw (lt-ltb k (length old / 16) room)
+row-in old row k room = rw (lt-ltb k (length old / rowSize) room)
 
 -- fields one after the other
 pack-append : (vs us fs gs : List ℕ) → length vs ≡ length fs → pack (vs ++ us) (fs ++ gs) ≡ pack vs fs * 2 ^ bits us + pack us gs
@@ -88,9 +89,9 @@ pack-append (v ∷ vs) us (f ∷ fs) gs e =
     rw (weight, ih) (omega (arith, add-mul (f * 2 ^ bits vs) (pack vs fs) (2 ^ bits us), mul-assoc f (2 ^ bits vs) (2 ^ bits us)))
 
 -- a row's two words are its sixteen bytes as one number
-pub row-words : (bytes : List ℕ) (k : ℕ) → k < length bytes / 16 → pack (byteWidths 16) (take 16 (drop (16 * k) bytes)) ≡ wordsAt bytes k .high * 2 ^ 64 + wordsAt bytes k .low
+pub row-words : (bytes : List ℕ) (k : ℕ) → k < length bytes / rowSize → pack (byteWidths rowSize) (take rowSize (drop (rowSize * k) bytes)) ≡ wordsAt bytes k .high * 2 ^ 64 + wordsAt bytes k .low
 unfolding wordsAt bits
 row-words bytes k h =
-    let rest = drop (16 * k) bytes in
-    let size : length (take 8 rest) ≡ 8 = length-take-le 8 rest (omega (arith, length-drop (16 * k) bytes)) in
-    rw (lt-ltb k (length bytes / 16) h) (ap (pack (byteWidths 16)) (take-add 8 8 rest) ∙ pack-append (byteWidths 8) (byteWidths 8) (take 8 rest) (take 8 (drop 8 rest)) (sym size) ∙ ap (λ (l : List ℕ). pack (byteWidths 8) (take 8 rest) * 2 ^ 64 + pack (byteWidths 8) (take 8 l)) (drop-drop 8 (16 * k) bytes))
+    let rest = drop (rowSize * k) bytes in
+    let size : length (take 8 rest) ≡ 8 = length-take-le 8 rest (omega (arith, length-drop (rowSize * k) bytes)) in
+    rw (lt-ltb k (length bytes / rowSize) h) (ap (pack (byteWidths rowSize)) (take-add 8 8 rest) ∙ pack-append (byteWidths 8) (byteWidths 8) (take 8 rest) (take 8 (drop 8 rest)) (sym size) ∙ ap (λ (l : List ℕ). pack (byteWidths 8) (take 8 rest) * 2 ^ 64 + pack (byteWidths 8) (take 8 l)) (drop-drop 8 (rowSize * k) bytes))

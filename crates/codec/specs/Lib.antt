@@ -2,4 +2,3 @@ pub mod Fit
 pub mod Layout
 pub mod Packing
 pub mod RowWords
-pub mod Rows

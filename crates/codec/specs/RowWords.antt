@@ -5,6 +5,7 @@ use mathlib.Core.Bool.{cond}
 use Prim.Native.Nat.{ℕ, _+_, _*_, _/_}
 use lib.ListN.{length, take, drop}
 use lib.Dec.{ltb}
+use Rattle.model.specs.Model.{rowSize}
 use Rattle.codec.specs.declared.RowWords.{RowWords}
 use Rattle.codec.specs.Packing.{pack, unpack}
 use Rattle.codec.specs.Layout.{byteWidths}
@@ -15,8 +16,8 @@ rowBytes high low = unpack (byteWidths 8) high ++ unpack (byteWidths 8) low
 
 -- A buffer whose k-th row, counted from 0, is these sixteen bytes; unchanged where it has no such row.
 unfoldable pub withRow : List ℕ → ℕ → List ℕ → List ℕ
-withRow bytes k row = cond (ltb k (length bytes / 16)) (take (16 * k) bytes ++ (row ++ drop (16 * k + 16) bytes)) bytes
+withRow bytes k row = cond (ltb k (length bytes / rowSize)) (take (rowSize * k) bytes ++ (row ++ drop (rowSize * k + rowSize) bytes)) bytes
 
 -- The two words of a buffer's k-th row, counted from 0; zeros where it has no such row.
 unfoldable pub wordsAt : List ℕ → ℕ → RowWords
-wordsAt bytes k = cond (ltb k (length bytes / 16)) (record { high = pack (byteWidths 8) (take 8 (drop (16 * k) bytes)); low = pack (byteWidths 8) (take 8 (drop (16 * k + 8) bytes)) }) (record { high = 0; low = 0 })
+wordsAt bytes k = cond (ltb k (length bytes / rowSize)) (record { high = pack (byteWidths 8) (take 8 (drop (rowSize * k) bytes)); low = pack (byteWidths 8) (take 8 (drop (rowSize * k + 8) bytes)) }) (record { high = 0; low = 0 })

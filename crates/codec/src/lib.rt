@@ -1,8 +1,9 @@
-// Words and rows of sixteen bytes in a lent buffer, and how a profile and a table lie in bytes.
+// Words and rows of sixteen bytes in a lent buffer, and how a profile lies in bytes.
 //
-// specs/Packing.antt says how fields are packed, specs/Layout.antt and specs/Rows.antt which fields a profile and a row of
-// a table have, and specs/RowWords.antt what `put_row` and `get_row` promise. These functions serve other crates of the
-// planner, and their callers meet what they require. Nothing is assumed.
+// specs/Packing.antt says how fields are packed, specs/Layout.antt which fields a profile has, and specs/RowWords.antt what
+// `put_row` and `get_row` promise. These functions serve other crates of the planner, and their callers meet what they
+// require. Nothing is assumed.
+use model::ROW_SIZE;
 ghost use mathlib.Core.Path.{_≡_};
 ghost use mathlib.Core.List.{_++_};
 ghost use Prim.Native.Nat.{_+_, _≤_, _<_};
@@ -21,9 +22,9 @@ pub struct RowWords {
 pub fn put_row(out: &mut [u8], k: usize, high: u64, low: u64)
     ensures { λ _. ⌜ now (out .exit) ≡ withRow (now (out .entry)) k (rowBytes high low) ⌝ }
 {
-    if k < out.len() / 16 {
-        put_word(out, 16 * k, high);
-        put_word(out, 16 * k + 8, low);
+    if k < out.len() / ROW_SIZE {
+        put_word(out, ROW_SIZE * k, high);
+        put_word(out, ROW_SIZE * k + 8, low);
     }
 }
 
@@ -31,10 +32,10 @@ pub fn put_row(out: &mut [u8], k: usize, high: u64, low: u64)
 pub fn get_row(bytes: &[u8], k: usize) -> RowWords
     ensures { λ r. ⌜ r ≡ wordsAt (now (bytes .entry)) k ⌝ }
 {
-    if k < bytes.len() / 16 {
+    if k < bytes.len() / ROW_SIZE {
         RowWords {
-            high: word_at(bytes, 16 * k),
-            low: word_at(bytes, 16 * k + 8),
+            high: word_at(bytes, ROW_SIZE * k),
+            low: word_at(bytes, ROW_SIZE * k + 8),
         }
     } else {
         RowWords { high: 0, low: 0 }

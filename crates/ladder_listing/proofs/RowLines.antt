@@ -2,7 +2,7 @@
 -- permitted, and so small enough for the text. Assumes nothing.
 use mathlib.Core.Path.{_≡_, sym, _∙_, ap}
 use mathlib.Core.List.{List, []}
-use Prim.Native.Nat.{ℕ, _+_, _*_, _^_, _≤_, _<_}
+use Prim.Native.Nat.{ℕ, _≤_, _<_}
 use borrow.Author.Tests.{lt-ltb, le-ltb}
 use Rattle.model.specs.declared.Seconds.{Seconds}
 use Rattle.model.specs.declared.Profile.{Profile}
@@ -10,10 +10,6 @@ use Rattle.model.specs.declared.Verdict.the-variants.{Sound}
 use Rattle.model.specs.Model.{jobsOf, periodsOf, loss, ifSound}
 use Rattle.model.proofs.Validity.{sound-valid}
 use Rattle.model.proofs.Verdicts.{Refuses, beside-sound, beside-refusal}
-use Rattle.codec.specs.declared.RowWords.{RowWords}
-use Rattle.codec.specs.Packing.{unpack}
-use Rattle.codec.specs.RowWords.{wordsAt}
-use Rattle.codec.specs.Rows.{tableWidths}
 use Rattle.sums.proofs.Scorable.{scorable}
 use Rattle.score.specs.declared.Scored.{Scored}
 use Rattle.score.specs.Scoring.{Scores}
@@ -21,15 +17,10 @@ use Rattle.score.specs.Judging.{scoreVerdict}
 use Rattle.score.proofs.Computed.{verdict-is, sound-own, sound-allowed, sound-loss}
 use Rattle.table_row.specs.declared.TableRow.{TableRow}
 use Rattle.table_row.specs.Table.{rowsIn}
-use Rattle.table_row.specs.Cut.{rowOf, rowAt}
-use Rattle.table_row.proofs.Cutting.{fields-of-words}
+use Rattle.table_row.specs.Cut.{rowAt}
 use Rattle.ladder_line.specs.Lines.{rowLine}
 use Rattle.ladder_listing.specs.Listing.{lineOfRow}
 use Rattle.ladder_line.specs.Writing.{Printable}
-
--- the row that is cut out of the table's words
-pub row-is : (table : List ℕ) (k : ℕ) {w : RowWords} {row : TableRow} → k < rowsIn table → w ≡ wordsAt table k → row ≡ rowOf (unpack tableWidths (w .high * 2 ^ 64 + w .low)) → row ≡ rowAt table k
-row-is table k h e f = f ∙ ap (λ (x : RowWords). rowOf (unpack tableWidths (x .high * 2 ^ 64 + x .low))) e ∙ ap rowOf (fields-of-words table k h)
 
 -- periods that score
 pub scored-printable : (p : Profile) (ts : List Seconds) {s : Scored} → Scores p ts s → s .verdict ≡ Sound → Printable ts (p .n)

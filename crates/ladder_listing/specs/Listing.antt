@@ -8,7 +8,7 @@ use lib.ListN.{length, drop}
 use lib.Dec.{ltb}
 use Rattle.model.specs.declared.Profile.{Profile}
 use Rattle.model.specs.declared.Counted.{Counted}
-use Rattle.model.specs.Model.{periodsOf, orElse, ifSound}
+use Rattle.model.specs.Model.{periodsOf, orElse, ifSound, rowSize}
 use Rattle.profile_read.specs.declared.Reading.{Reading}
 use Rattle.profile_read.specs.Reading.{noProfile, Reads}
 use Rattle.score.specs.Judging.{scoreVerdict}
@@ -40,8 +40,8 @@ pub record Prepares (input old : List ℕ) (l : Listing) (new : List ℕ) : Type
   pub verdict : l .verdict ≡ orElse (reading .verdict) (building .verdict)
   pub profile : l .profile ≡ ifSound (l .verdict) (reading .profile) noProfile
   pub rows : l .rows ≡ building .count
-  pub room : length old ≡ 16 * 4096
-  pub kept : length new ≡ 16 * 4096
+  pub room : length old ≡ rowSize * 4096
+  pub kept : length new ≡ rowSize * 4096
 
 -- What `line` may answer, and leave of a text that held `old`: the line numbered k and its length.
 pub record Prints (l : Listing) (table : List ℕ) (k : ℕ) (old : List ℕ) (r : ℕ) (new : List ℕ) : Type 0 where

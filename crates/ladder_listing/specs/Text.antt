@@ -10,7 +10,7 @@ use Rattle.model.specs.declared.Seconds.{Seconds}
 use Rattle.model.specs.declared.Job.{Job}
 use Rattle.model.specs.declared.Verdict.{Verdict}
 use Rattle.model.specs.declared.Verdict.the-variants.{Sound}
-use Rattle.model.specs.Model.{jobsOf, Permitted, need, loss, orElse, ifSound, verdictOf, rowsVerdict}
+use Rattle.model.specs.Model.{jobsOf, Permitted, need, loss, orElse, ifSound, verdictOf, rowSize, rowsVerdict}
 use Rattle.profile_read.specs.declared.Reading.{Reading}
 use Rattle.profile_read.specs.Reading.{Reads}
 use Rattle.table.specs.Table.{TableOf}
@@ -23,9 +23,9 @@ unfoldable pub rowLines : List Job → List (List Seconds) → List ℕ
 rowLines js [] = []
 rowLines js (ts ∷ rows) = rowLine (need js ts) (loss js ts) ts ++ rowLines js rows
 
--- The verdict on a listing of `count` rows: the reading's own, then that of building into room for 4,096 rows of 16 bytes.
+-- The verdict on a listing of `count` rows: the reading's own, then that of building into room for 4,096 rows.
 unfoldable pub listingVerdict : Reading → ℕ → Verdict
-listingVerdict r count = orElse (r .verdict) (rowsVerdict (r .profile) count (16 * 4096))
+listingVerdict r count = orElse (r .verdict) (rowsVerdict (r .profile) count (rowSize * 4096))
 
 -- The whole text: the header and a line for each row of the table, or the refusal alone.
 unfoldable pub textOf : Reading → List (List Seconds) → List ℕ

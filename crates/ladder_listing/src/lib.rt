@@ -3,6 +3,7 @@
 // specs/Listing.antt says which line comes when and what the two operations answer; specs/Text.antt says what the whole
 // text means, and proofs/ that the lines are that text. Nothing is assumed, and no public function has a `requires`.
 use model::Profile;
+use model::ROW_SIZE;
 use model::Verdict;
 ghost use Rattle.io.specs.Counts.{Counts};
 ghost use Rattle.ladder_line.specs.Writing.{Puts};
@@ -75,11 +76,10 @@ pub fn line(l: Listing, table: &[u8], k: u64, text: &mut [u8; 80]) -> usize
 fn row_line(p: Profile, table: &[u8], k: usize, text: &mut [u8; 80]) -> usize
     ensures { λ r. ⌜ Puts (now (text .entry)) 0 (lineOfRow p (now (table .entry)) k) r (now (text .exit)) ⌝ }
 {
-    if table.len() / 16 <= k {
+    if table.len() / ROW_SIZE <= k {
         return 0;
     }
-    let words = codec::get_row(table, k);
-    let row = table_row::cut_row(words.high, words.low);
+    let row = table_row::row_at(table, k);
     let periods = row.periods;
     let scored = score::score(p, periods);
     let v = scored.verdict;

@@ -1,7 +1,7 @@
 -- Laws of the entries of a list from one place to another, for loops that go through them one by one.
 -- Assumes nothing.
 use mathlib.Core.Path.{_≡_, refl, sym, _∙_, ap, ap₂}
-use mathlib.Core.List.{List, [], _∷_, _++_}
+use mathlib.Core.List.{List, [], _∷_, _++_, append-nil}
 use Prim.Native.Nat.{ℕ, zero, suc, _+_, _-_, _≤_, _<_}
 use native.Mathlib.Nat.{add-zero}
 use native.Mathlib.Omega.{arith}
@@ -47,3 +47,13 @@ entries-between d xs (y ∷ ys) zs =
 
 pub entries-front : {A : Type 0} (d : A) (ys zs : List A) → entries d (ys ++ zs) 0 (length ys) ≡ ys
 entries-front d ys zs = entries-between d [] ys zs
+
+-- as many entries as the list has are the list
+pub entries-all : {A : Type 0} (d : A) (xs : List A) {k : ℕ} → length xs ≡ k → entries d xs 0 k ≡ xs
+entries-all d xs size = ap₂ (λ (l : List _) (n : ℕ). entries d l 0 n) (sym (append-nil xs)) (sym size) ∙ entries-front d xs []
+
+-- lists that agree at every place have the same entries
+pub entries-same : {A : Type 0} (d : A) (xs ys : List A) (i k : ℕ) → ((j : ℕ) → getD xs j d ≡ getD ys j d) → entries d xs i k ≡ entries d ys i k
+unfolding entries
+entries-same d xs ys i zero h = refl
+entries-same d xs ys i (suc k) h = ap₂ _∷_ (h i) (entries-same d xs ys (i + 1) k h)

@@ -11,7 +11,7 @@ use Rattle.model.specs.declared.Profile.{Profile}
 use Rattle.model.specs.declared.Counted.{Counted}
 use Rattle.model.specs.declared.Verdict.{Verdict}
 use Rattle.model.specs.declared.Verdict.the-variants.{Sound, NoPeriods, Room}
-use Rattle.model.specs.Model.{numberOf, refuseIf, orElse, ifSound, verdictOf, rowsVerdict, PutsRows}
+use Rattle.model.specs.Model.{numberOf, refuseIf, orElse, ifSound, verdictOf, rowSize, rowsVerdict, PutsRows}
 use Rattle.model.proofs.Verdicts.{Refuses, sound-of-zero, sound-passes, beside-sound, beside-refusal}
 
 -- a refusal leaves the buffer as it was, and the count zero
@@ -20,22 +20,22 @@ none-put p rows bytes old v h e = record { verdict = e; count = beside-refusal _
 
 -- past the profile's own verdict, with the rows counted
 module _ (p : Profile) (rows : ℕ) (bytes old : List ℕ) (count : ℕ) (sound : verdictOf p ≡ Sound) (is : count ≡ rows) where
-  passed : rowsVerdict p rows (length old) ≡ refuseIf (eqb count 0) NoPeriods (refuseIf (ltb (length old / 16) count) (Room count) Sound)
+  passed : rowsVerdict p rows (length old) ≡ refuseIf (eqb count 0) NoPeriods (refuseIf (ltb (length old / rowSize) count) (Room count) Sound)
   unfolding rowsVerdict
-  passed = sound-passes _ refl sound ∙ ap (λ (k : ℕ). refuseIf (eqb k 0) NoPeriods (refuseIf (ltb (length old / 16) k) (Room k) Sound)) (sym is)
+  passed = sound-passes _ refl sound ∙ ap (λ (k : ℕ). refuseIf (eqb k 0) NoPeriods (refuseIf (ltb (length old / rowSize) k) (Room k) Sound)) (sym is)
 
   pub no-rows : count ≡ 0 → PutsRows p rows bytes old (record { verdict = NoPeriods; count = 0 }) old
   unfolding refuseIf
   no-rows e = none-put p rows bytes old NoPeriods tt (sym (passed ∙ simp (eq-eqb count 0 e)))
 
-  pub no-room : (count ≡ 0 → ⊥) → length old / 16 < count → PutsRows p rows bytes old (record { verdict = Room count; count = 0 }) old
+  pub no-room : (count ≡ 0 → ⊥) → length old / rowSize < count → PutsRows p rows bytes old (record { verdict = Room count; count = 0 }) old
   unfolding refuseIf
-  no-room some h = none-put p rows bytes old (Room count) tt (sym (passed ∙ simp (ne-eqb count 0 some, lt-ltb (length old / 16) count h)))
+  no-room some h = none-put p rows bytes old (Room count) tt (sym (passed ∙ simp (ne-eqb count 0 some, lt-ltb (length old / rowSize) count h)))
 
-  pub all-put : (count ≡ 0 → ⊥) → count ≤ length old / 16 → (new : List ℕ) → new ≡ bytes ++ drop (16 * rows) old → PutsRows p rows bytes old (record { verdict = Sound; count = count }) new
+  pub all-put : (count ≡ 0 → ⊥) → count ≤ length old / rowSize → (new : List ℕ) → new ≡ bytes ++ drop (rowSize * rows) old → PutsRows p rows bytes old (record { verdict = Sound; count = count }) new
   unfolding refuseIf
   all-put some h new e =
-      let v : Sound ≡ rowsVerdict p rows (length old) = sym (passed ∙ simp (ne-eqb count 0 some, le-ltb (length old / 16) count h)) in
+      let v : Sound ≡ rowsVerdict p rows (length old) = sym (passed ∙ simp (ne-eqb count 0 some, le-ltb (length old / rowSize) count h)) in
       record { verdict = v; count = is ∙ beside-sound _ _ v; bytes = e ∙ beside-sound _ _ v }
 
 -- answer and bytes, as the rows decide them
@@ -43,7 +43,7 @@ abbrev answer : Profile → List ℕ → ℕ → Counted
 answer p old rows = record { verdict = rowsVerdict p rows (length old); count = ifSound (rowsVerdict p rows (length old)) rows 0 }
 
 abbrev left : Profile → List ℕ → ℕ → List ℕ → List ℕ
-left p old rows bytes = ifSound (rowsVerdict p rows (length old)) (bytes ++ drop (16 * rows) old) old
+left p old rows bytes = ifSound (rowsVerdict p rows (length old)) (bytes ++ drop (rowSize * rows) old) old
 
 -- beside a refused profile any rows decide alike
 refused-alike : (p : Profile) (old : List ℕ) (k l : ℕ) (bytes others : List ℕ) → eqb (numberOf (verdictOf p)) 0 ≡ false → (answer p old k ≡ answer p old l) × (left p old k bytes ≡ left p old l others)

@@ -192,14 +192,18 @@ pub record ProfileFirst {A : Type 0} (p : Profile) (refused : Verdict → A) (Re
   pub own : (verdictOf p ≡ Sound → ⊥) → r ≡ refused (verdictOf p)
   pub sound : verdictOf p ≡ Sound → Rest r
 
--- The verdict on putting `count` rows of sixteen bytes into `size` lent bytes: the profile's own, then 9 where there are none,
+-- The bytes of a row, be it a table's or a zone's (Packing).
+abbrev pub rowSize : ℕ
+rowSize = 16
+
+-- The verdict on putting `count` rows into `size` lent bytes: the profile's own, then 9 where there are none,
 -- then 11 (Refusal numbers, order).
 unfoldable pub rowsVerdict : Profile → ℕ → ℕ → Verdict
-rowsVerdict p count size = orElse (verdictOf p) (refuseIf (eqb count 0) NoPeriods (refuseIf (ltb (size / 16) count) (Room count) Sound))
+rowsVerdict p count size = orElse (verdictOf p) (refuseIf (eqb count 0) NoPeriods (refuseIf (ltb (size / rowSize) count) (Room count) Sound))
 
 -- What an operation that puts rows into a lent buffer may answer, and leave of one that held `old`: the count, and the rows'
 -- bytes, `front`, before the rest; beside a refusal 0, and every byte as it was (The table: room; Refusal numbers).
 pub record PutsRows (p : Profile) (rows : ℕ) (front old : List ℕ) (r : Counted) (new : List ℕ) : Type 0 where
   pub verdict : r .verdict ≡ rowsVerdict p rows (length old)
   pub count : r .count ≡ ifSound (rowsVerdict p rows (length old)) rows 0
-  pub bytes : new ≡ ifSound (rowsVerdict p rows (length old)) (front ++ drop (16 * rows) old) old
+  pub bytes : new ≡ ifSound (rowsVerdict p rows (length old)) (front ++ drop (rowSize * rows) old) old

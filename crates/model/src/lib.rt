@@ -54,6 +54,9 @@ pub enum Verdict {
     Periods(u32),
 }
 
+// The bytes of a row, be it a table's or a zone's.
+pub const ROW_SIZE: usize = 16;
+
 // What an operation that fills a lent buffer answers: how many bytes or rows it wrote, 0 beside a refusal.
 pub struct Counted {
     pub verdict: Verdict,

@@ -12,7 +12,7 @@ use Rattle.model.specs.declared.Profile.{Profile}
 use Rattle.model.specs.Model.{jobsOf}
 use Rattle.model.specs.Valid.{ValidJobs, Valid}
 use Rattle.table_stairs.specs.Stairs.{Stair, stair}
-use Rattle.table_stairs.specs.Rows.{needIn, stairsIn}
+use Rattle.table_stairs.specs.Rows.{needIn, stairAt, stairsIn}
 use Rattle.table_climb.specs.Next.{Answer, NextAnswers, lastNeed, AnswersUnder, AnswersBelow}
 use Rattle.table_stairs.proofs.Rows.{rows-length}
 use Rattle.table_climb.proofs.Answers.{need-last, limit-falls}
@@ -58,10 +58,11 @@ module _ {p : Profile} (v : Valid p) {limit found : ℕ} {flat : List ℕ} (more
   batch-next = subst (λ (m : ℕ). NextAnswers (jobsOf p) m batch) same-limit (b .under .next)
 
   pub batch-need : 0 < found → needIn flat (found - 1) ≡ lastNeed limit (stairsIn (p .n) found flat)
+  unfolding stairAt
   batch-need some =
       let d = stair 0 0 [] in
       let last : length batch ≡ suc (found - 1) = omega (arith, batch-length) in
-      b .words d (found - 1) (omega arith) .need-is ∙ sym (need-last d limit batch (found - 1) last)
+      sym (ap (λ (r : Stair). r .its-need) (b .rows d (found - 1) (omega arith))) ∙ sym (need-last d limit batch (found - 1) last)
 
   pub batch-count : length (rowsBelow (jobsOf p) limit) ≡ length (rowsBelow (jobsOf p) (lastNeed limit (stairsIn (p .n) found flat))) + found
   batch-count = omega (arith, count-next (jobsOf p) (v .jobs) limit batch batch-next, batch-length)

@@ -10,7 +10,7 @@ use Rattle.model.specs.declared.Seconds.{Seconds}
 use Rattle.model.specs.declared.Profile.{Profile}
 use Rattle.model.specs.declared.Counted.{Counted}
 use Rattle.model.specs.declared.Verdict.the-variants.{Sound}
-use Rattle.model.specs.Model.{noJob, jobsOf, Permitted, verdictOf, PutsRows}
+use Rattle.model.specs.Model.{noJob, jobsOf, Permitted, verdictOf, PutsRows, rowSize}
 use Rattle.model.proofs.Entries.{length-entries}
 use Rattle.model.proofs.Validity.{sound-valid}
 use Rattle.model.proofs.RowsPut.{all-put}
@@ -34,6 +34,6 @@ pub built : (p : Profile) (old : List ℕ) {r : Counted} {new : List ℕ} → Pu
 built p old put = record { rows = rowsOf p; are = are-rows p; none = none-of p; puts = put }
 
 -- the same, where what was written is told by the rows counted
-pub all-built : (p : Profile) (old : List ℕ) (count : ℕ) → verdictOf p ≡ Sound → count ≡ length (rowsOf p) → (count ≡ 0 → ⊥) → count ≤ length old / 16 → (new : List ℕ) → new ≡ tableBytes (jobsOf p) (rowsOf p) ++ drop (16 * count) old
+pub all-built : (p : Profile) (old : List ℕ) (count : ℕ) → verdictOf p ≡ Sound → count ≡ length (rowsOf p) → (count ≡ 0 → ⊥) → count ≤ length old / rowSize → (new : List ℕ) → new ≡ tableBytes (jobsOf p) (rowsOf p) ++ drop (rowSize * count) old
     → Built p old (record { verdict = Sound; count = count }) new
-all-built p old count sound is some h new e = built p old (all-put p _ _ old count sound is some h new (e ∙ ap (λ (k : ℕ). tableBytes (jobsOf p) (rowsOf p) ++ drop (16 * k) old) is))
+all-built p old count sound is some h new e = built p old (all-put p _ _ old count sound is some h new (e ∙ ap (λ (k : ℕ). tableBytes (jobsOf p) (rowsOf p) ++ drop (rowSize * k) old) is))

@@ -1,7 +1,7 @@
--- Table rows: the two words of an answer are the bytes of its row, and row stands before row from the back of the table.
+-- Table rows: the row of an answer has its need and periods, and row stands before row from the back of the table.
 -- Assumes nothing.
 use mathlib.Core.Path.{_≡_, refl, sym, _∙_, ap, ap₂, subst}
-use mathlib.Core.List.{List, [], _∷_, _++_, map, append-assoc, append-nil}
+use mathlib.Core.List.{List, [], _∷_, _++_, append-assoc, append-nil}
 use Prim.Native.Nat.{ℕ, zero, suc, _+_, _*_, _-_, _/_, _^_, _≤_, _<_}
 use native.Mathlib.Omega.{arith}
 use native.Mathlib.Decide.{decLt}
@@ -9,20 +9,21 @@ use native.Mathlib.Nat.{le-refl, le-trans, sub-zero}
 use lib.ListN.{length, getD, take, drop, replicate, length-append, length-drop, take-append-drop}
 use lib.Seq.{take-take, take-append-le, take-length, drop-at, length-take-le}
 use Rattle.model.specs.declared.Seconds.{Seconds}
+use Rattle.model.specs.declared.PagesPerHour.{PagesPerHour}
 use Rattle.model.specs.declared.Job.{Job}
 use Rattle.model.specs.declared.Profile.{Profile}
-use Rattle.model.specs.Model.{seconds, jobsOf, entries, PermittedAfter, need}
+use Rattle.model.specs.Model.{seconds, pagesPerHour, jobsOf, PermittedAfter, need, rowSize}
 use Rattle.model.specs.Valid.{ValidJobs, Valid}
-use Rattle.codec.specs.Packing.{bits, pack, recut}
-use Rattle.codec.specs.Layout.{byteWidths}
-use Rattle.codec.specs.RowWords.{rowBytes, withRow}
-use Rattle.codec.specs.Rows.{tableWidths, tableRow}
-use Rattle.codec.proofs.Rows.{row-of-words, row-in, length-row}
+use Rattle.codec.specs.RowWords.{withRow}
+use Rattle.codec.proofs.Rows.{row-in}
+use Rattle.walk.specs.Steps.{periodsIn}
+use Rattle.table_row.specs.Table.{tableRow}
+use Rattle.table_row.proofs.Words.{length-table-row, row-of-front}
 use Rattle.table_stairs.specs.Stairs.{Stair, stair}
-use Rattle.table_stairs.specs.Rows.{highWord, lowWord, needIn, lowIn, stairsIn}
-use Rattle.table_climb.specs.Next.{Answer, lastNeed, Words, AnswersBelow}
+use Rattle.table_stairs.specs.Rows.{needIn, stairPeriods, stairAt, stairsIn, Legible}
+use Rattle.table_climb.specs.Next.{Answer, lastNeed, AnswersBelow}
 use Rattle.table_climb.proofs.Answers.{answer-at, need-at, answer-below}
-use Rattle.table_batch.specs.Batch.{withBatch}
+use Rattle.table_batch.specs.Batch.{batchRow, withBatch}
 use Rattle.table.specs.Table.{tableBytes}
 use Rattle.table.specs.Descent.{rowsBelow, allBudgets}
 use Rattle.table.proofs.Descent.{rows-zero}
@@ -39,11 +40,6 @@ getD-padded [] k i = getD-zeros k i
 getD-padded (t ∷ ts) k zero = refl
 getD-padded (t ∷ ts) k (suc i) = getD-padded ts k i
 
-pub same-entries : (xs ys : List Seconds) (i k : ℕ) → ((j : ℕ) → getD xs j (seconds 0) ≡ getD ys j (seconds 0)) → entries (seconds 0) xs i k ≡ entries (seconds 0) ys i k
-unfolding entries
-same-entries xs ys i zero h = refl
-same-entries xs ys i (suc k) h = ap₂ _∷_ (h i) (same-entries xs ys (i + 1) k h)
-
 -- each permitted period is within the hour
 pub period-to : (before : Seconds) (js : List Job) (ts : List Seconds) → ValidJobs js → PermittedAfter before js ts → (i : ℕ) → getD ts i (seconds 0) .0 ≤ 3600
 period-to before [] [] v h i = omega arith
@@ -52,31 +48,19 @@ period-to before (j ∷ js) [] v h i = omega arith
 period-to before (j ∷ js) (t ∷ ts) v h zero = le-trans (h .0 .below) (v .0 .hi-to)
 period-to before (j ∷ js) (t ∷ ts) v h (suc i) = period-to t js ts (v .1) (h .1) i
 
--- the periods of a row as numbers
-number-at : (ts : List Seconds) (i : ℕ) → getD (map (λ t. t .0) ts) i 0 ≡ getD ts i (seconds 0) .0
-number-at [] i = refl
-number-at (t ∷ ts) zero = refl
-number-at (t ∷ ts) (suc i) = number-at ts i
-
--- the fields side by side are the two words
-fields : (q : ℕ) (ts : List Seconds) → pack tableWidths (q ∷ map (λ t. t .0) (entries (seconds 0) ts 0 8)) ≡ highWord q (map (λ t. t .0) ts) * 2 ^ 64 + lowWord (map (λ t. t .0) ts)
-unfolding pack bits entries
-fields q ts = rw (number-at ts 0, number-at ts 1, number-at ts 2, number-at ts 3, number-at ts 4, number-at ts 5, number-at ts 6, number-at ts 7) (omega arith)
-
--- so the two words of an answer are the bytes of its row
-module _ {js : List Job} {limit : ℕ} {r : Stair} (a : Answer js limit r) {high low : ℕ} (w : Words r high low) where
-  pub answer-row : limit ≤ 2 ^ 32 → rowBytes high low ≡ tableRow (need js (r .periods)) (r .periods)
-  unfolding tableRow
-  answer-row within =
-      let small : high < 2 ^ 64 = omega (arith, w .need-is, answer-below a) in
-      let is = fields (r .its-need) (r .periods) ∙ sym (ap₂ (λ (x y : ℕ). x * 2 ^ 64 + y) (w .high-is) (w .low-is)) in
-      sym (ap (λ (q : ℕ). recut tableWidths (byteWidths 16) (q ∷ map (λ t. t .0) (entries (seconds 0) (r .periods) 0 8))) (sym (a .need-is)) ∙ row-of-words tableWidths _ high low is small (w .low-fits))
+-- the row of an answer has its need and its periods
+answer-row : {js : List Job} {limit : ℕ} (n : ℕ) (flat : List ℕ) (k : ℕ) → Answer js limit (stairAt n flat k) → Legible n flat k
+    → batchRow flat k ≡ tableRow (need js (stairAt n flat k .periods)) (stairAt n flat k .periods)
+unfolding stairAt
+answer-row n flat k a legible =
+    sym (row-of-front (pagesPerHour (needIn flat k)) n (stairPeriods flat k) legible)
+    ∙ ap (λ (q : ℕ). tableRow (pagesPerHour q) (periodsIn n (stairPeriods flat k))) (a .need-is)
 
 -- a row more changes no length
-row-length : (out : List ℕ) (k high low : ℕ) → k < length out / 16 → length (withRow out k (rowBytes high low)) ≡ length out
-row-length out k high low room =
-    let front : length (take (16 * k) out) ≡ 16 * k = length-take-le (16 * k) out (omega arith) in
-    ap length (row-in out (rowBytes high low) k room) ∙ simp (length-append, front, length-row, length-drop) (omega arith)
+row-length : (out : List ℕ) (k : ℕ) (start : PagesPerHour) (ts : List Seconds) → k < length out / rowSize → length (withRow out k (tableRow start ts)) ≡ length out
+row-length out k start ts room =
+    let front : length (take (rowSize * k) out) ≡ rowSize * k = length-take-le (rowSize * k) out (omega arith) in
+    ap length (row-in out (tableRow start ts) k room) ∙ simp (length-append, front, length-table-row start ts, length-drop) (omega arith)
 
 -- writing, with the rows of the budgets below the limit still to come: those behind them stand in their places
 pub record Writing (js : List Job) (count : ℕ) (old out : List ℕ) (row limit : ℕ) : Type 0 where
@@ -86,7 +70,7 @@ pub record Writing (js : List Job) (count : ℕ) (old out : List ℕ) (row limit
   pub within : limit ≤ 2 ^ 32
   pub upto : row ≤ count
   pub same : length out ≡ length old
-  pub bytes : out ≡ take (16 * row) old ++ (tableBytes js written ++ drop (16 * count) old)
+  pub bytes : out ≡ take (rowSize * row) old ++ (tableBytes js written ++ drop (rowSize * count) old)
 
 module _ (js : List Job) (count : ℕ) (old : List ℕ) where
   pub none-written : count ≡ length (rowsBelow js allBudgets) → Writing js count old old count (2 ^ 32)
@@ -98,15 +82,15 @@ module _ (js : List Job) (count : ℕ) (old : List ℕ) where
     within = le-refl _;
     upto = le-refl _;
     same = refl;
-    bytes = sym (take-append-drop (16 * count) old);
+    bytes = sym (take-append-drop (rowSize * count) old);
   }
 
   module _ (out : List ℕ) (row limit : ℕ) (i : Writing js count old out row limit) where
-    pub all-written : row ≤ 0 → out ≡ tableBytes js (rowsBelow js allBudgets) ++ drop (16 * count) old
+    pub all-written : row ≤ 0 → out ≡ tableBytes js (rowsBelow js allBudgets) ++ drop (rowSize * count) old
     all-written e =
         let z : row ≡ 0 = omega arith in
         let none : rowsBelow js limit ≡ [] = nil-of-zero (rowsBelow js limit) (sym (i .left) ∙ z) in
-        i .bytes ∙ ap₂ (λ (k : ℕ) (ws : List (List Seconds)). take (16 * k) old ++ (tableBytes js ws ++ drop (16 * count) old)) z (sym (i .whole ∙ ap (λ (l : List (List Seconds)). l ++ i .written) none))
+        i .bytes ∙ ap₂ (λ (k : ℕ) (ws : List (List Seconds)). take (rowSize * k) old ++ (tableBytes js ws ++ drop (rowSize * count) old)) z (sym (i .whole ∙ ap (λ (l : List (List Seconds)). l ++ i .written) none))
       where
         nil-of-zero : (l : List (List Seconds)) → length l ≡ 0 → l ≡ []
         nil-of-zero [] d = refl
@@ -121,34 +105,33 @@ module _ (js : List Job) (count : ℕ) (old : List ℕ) where
             let z : limit ≡ 0 = omega arith in
             absurd (omega (arith, i .left, ap length (ap (rowsBelow js) z ∙ rows-zero js)))
 
-    one-written : ValidJobs js → {r : Stair} → Answer js limit r → (high low : ℕ) → Words r high low → count ≤ length old / 16 →
-        Writing js count old (withRow out (row - 1) (rowBytes high low)) (row - 1) (r .its-need)
+    one-written : ValidJobs js → {r : Stair} → Answer js limit r → count ≤ length old / rowSize →
+        Writing js count old (withRow out (row - 1) (tableRow (need js (r .periods)) (r .periods))) (row - 1) (r .its-need)
     unfolding tableBytes
-    one-written v {r} a high low w room =
+    one-written v {r} a room =
         let ts = r .periods in
         let R = tableRow (need js ts) ts in
         let T = tableBytes js (i .written) in
-        let D = drop (16 * count) old in
-        let P = take (16 * row) old in
+        let D = drop (rowSize * count) old in
+        let P = take (rowSize * row) old in
         let step : rowsBelow js limit ≡ rowsBelow js (r .its-need) ++ (ts ∷ []) = rows-answer js v a in
         let one-more : row ≡ length (rowsBelow js (r .its-need)) + 1 = i .left ∙ ap length step ∙ length-append (rowsBelow js (r .its-need)) (ts ∷ []) in
-        let front : length P ≡ 16 * row = length-take-le (16 * row) old (omega (arith, i .upto)) in
-        let before-it : take (16 * (row - 1)) out ≡ take (16 * (row - 1)) old = ap (take (16 * (row - 1))) (i .bytes) ∙ take-append-le (16 * (row - 1)) P (T ++ D) (omega arith) ∙ take-take (16 * (row - 1)) (16 * row) old (omega arith) in
-        let place : 16 * (row - 1) + 16 ≡ 16 * row = omega arith in
-        let after-it : drop (16 * (row - 1) + 16) out ≡ T ++ D = ap₂ drop place (i .bytes) ∙ drop-at P (T ++ D) (16 * row) front in
-        let is : rowBytes high low ≡ R = answer-row a w (i .within) in
-        let inside : row - 1 < length out / 16 = subst (λ (k : ℕ). row - 1 < k / 16) (sym (i .same)) (omega (arith, i .upto)) in
+        let front : length P ≡ rowSize * row = length-take-le (rowSize * row) old (omega (arith, i .upto)) in
+        let before-it : take (rowSize * (row - 1)) out ≡ take (rowSize * (row - 1)) old = ap (take (rowSize * (row - 1))) (i .bytes) ∙ take-append-le (rowSize * (row - 1)) P (T ++ D) (omega arith) ∙ take-take (rowSize * (row - 1)) (rowSize * row) old (omega arith) in
+        let place : rowSize * (row - 1) + rowSize ≡ rowSize * row = omega arith in
+        let after-it : drop (rowSize * (row - 1) + rowSize) out ≡ T ++ D = ap₂ drop place (i .bytes) ∙ drop-at P (T ++ D) (rowSize * row) front in
+        let inside : row - 1 < length out / rowSize = subst (λ (k : ℕ). row - 1 < k / rowSize) (sym (i .same)) (omega (arith, i .upto)) in
         record {
           written = ts ∷ i .written;
           whole = i .whole ∙ ap (λ (l : List (List Seconds)). l ++ i .written) step ∙ append-assoc (rowsBelow js (r .its-need)) (ts ∷ []) (i .written);
           left = omega arith;
           within = omega (arith, i .within, answer-below a);
           upto = omega (arith, i .upto);
-          same = row-length out (row - 1) high low inside ∙ i .same;
-          bytes = row-in out (rowBytes high low) (row - 1) inside ∙ ap₂ (λ (a b : List ℕ). a ++ (rowBytes high low ++ b)) before-it after-it ∙ ap (λ (r : List ℕ). take (16 * (row - 1)) old ++ (r ++ (T ++ D))) is ∙ ap (λ (l : List ℕ). take (16 * (row - 1)) old ++ l) (sym (append-assoc R T D));
+          same = row-length out (row - 1) (need js ts) ts inside ∙ i .same;
+          bytes = row-in out R (row - 1) inside ∙ ap₂ (λ (a b : List ℕ). a ++ (R ++ b)) before-it after-it ∙ ap (λ (l : List ℕ). take (rowSize * (row - 1)) old ++ l) (sym (append-assoc R T D));
         }
 
-module _ {p : Profile} {count : ℕ} {old : List ℕ} (v : Valid p) (room : count ≤ length old / 16) {out : List ℕ} {row limit found : ℕ} {flat : List ℕ} (i : Writing (jobsOf p) count old out row limit) (more : 0 < row) (b : AnswersBelow p limit found flat) where
+module _ {p : Profile} {count : ℕ} {old : List ℕ} (v : Valid p) (room : count ≤ length old / rowSize) {out : List ℕ} {row limit found : ℕ} {flat : List ℕ} (i : Writing (jobsOf p) count old out row limit) (more : 0 < row) (b : AnswersBelow p limit found flat) where
   from : 0 < limit
   from = limit-left (jobsOf p) count old out row limit i more
 
@@ -173,10 +156,13 @@ module _ {p : Profile} {count : ℕ} {old : List ℕ} (v : Valid p) (room : coun
       let inside : k < length rows = omega (arith, batch-length v from b) in
       let place : row - k - 1 ≡ row - 1 - k = omega arith in
       let left : row - k - 1 ≡ row - suc k = omega arith in
-      let one = one-written (jobsOf p) count old (withBatch flat row k out) (row - k) (lastNeed limit (take k rows)) w (v .jobs) (answer-at d limit rows k (batch-next v from b) inside) (getD flat (3 * k) 0) (lowIn flat k) (b .words d k less) room in
-      subst (Writing (jobsOf p) count old (withBatch flat row (suc k) out) (row - suc k)) (sym (need-at d limit rows k inside))
-      (subst (λ (m : ℕ). Writing (jobsOf p) count old (withBatch flat row (suc k) out) m (getD rows k d .its-need)) left
-      (subst (λ (m : ℕ). Writing (jobsOf p) count old (withRow (withBatch flat row k out) m (rowBytes (getD flat (3 * k) 0) (lowIn flat k))) (row - k - 1) (getD rows k d .its-need)) place one))
+      let r = stairAt (p .n) flat k in
+      let answer = subst (Answer (jobsOf p) (lastNeed limit (take k rows))) (b .rows d k less) (answer-at d limit rows k (batch-next v from b) inside) in
+      let one = one-written (jobsOf p) count old (withBatch flat row k out) (row - k) (lastNeed limit (take k rows)) w (v .jobs) answer room in
+      subst (Writing (jobsOf p) count old (withBatch flat row (suc k) out) (row - suc k)) (sym (need-at d limit rows k inside ∙ ap (λ (x : Stair). x .its-need) (b .rows d k less)))
+      (subst (λ (m : ℕ). Writing (jobsOf p) count old (withBatch flat row (suc k) out) m (r .its-need)) left
+      (subst (λ (R : List ℕ). Writing (jobsOf p) count old (withRow (withBatch flat row k out) (row - 1 - k) R) (row - k - 1) (r .its-need)) (sym (answer-row (p .n) flat k answer (b .legible k less)))
+      (subst (λ (m : ℕ). Writing (jobsOf p) count old (withRow (withBatch flat row k out) m (tableRow (need (jobsOf p) (r .periods)) (r .periods))) (row - k - 1) (r .its-need)) place one)))
 
   none-yet : Writing (jobsOf p) count old (withBatch flat row 0 out) (row - 0) (lastNeed limit (take 0 (stairsIn (p .n) found flat)))
   unfolding withBatch lastNeed

@@ -12,7 +12,7 @@ use Rattle.model.specs.declared.Profile.{Profile}
 use Rattle.model.specs.declared.Counted.{Counted}
 use Rattle.model.specs.declared.Verdict.the-variants.{Sound}
 use Rattle.model.specs.Model.{jobsOf, Permitted, need, Best, verdictOf, PutsRows}
-use Rattle.codec.specs.Rows.{tableRow}
+use Rattle.table_row.specs.Table.{tableRow}
 
 -- Each row's need is below that of every later row (The table: rising start).
 abbrev pub Rising : List Job → List (List Seconds) → Type 0

@@ -7,12 +7,13 @@
 // greatest budget, then the best below their need, and so on until nothing fits; each walk collects a batch of them.
 use model::Counted;
 use model::Profile;
+use model::ROW_SIZE;
 use model::Verdict;
 ghost use mathlib.Core.Path.{_≡_};
 ghost use mathlib.Core.List.{_++_};
 ghost use Prim.Native.Nat.{_*_, _/_, _≤_};
 ghost use lib.ListN.{length, drop};
-ghost use Rattle.model.specs.Model.{jobsOf};
+ghost use Rattle.model.specs.Model.{jobsOf, rowSize};
 ghost use Rattle.model.specs.Valid.{Valid};
 ghost use Rattle.table.specs.Table.{tableBytes, Built};
 ghost use Rattle.table.specs.Descent.{rowsBelow, allBudgets};
@@ -38,7 +39,7 @@ pub fn build_table(p: Profile, out: &mut [u8]) -> Counted
             count: 0,
         };
     }
-    let room = (out.len() / 16) as u64;
+    let room = (out.len() / ROW_SIZE) as u64;
     if room < count {
         return Counted {
             verdict: Verdict::Room(count),
@@ -66,15 +67,15 @@ fn count_rows(p: Profile) -> u64
             return count;
         }
         count += found as u64;
-        limit = table_batch::last_need(&rows, found);
+        limit = table_batch::last_need(&rows, found).0 as u64;
     }
     count
 }
 
 // The rows to the front of `out`, which has room for them, the last one first.
 fn write_rows(p: Profile, count: usize, out: &mut [u8])
-    requires { ⌜ Valid p × (count ≡ length (rowsBelow (jobsOf p) allBudgets)) × (count ≤ length (now out) / 16) ⌝ }
-    ensures { λ _. ⌜ now (out .exit) ≡ tableBytes (jobsOf p) (rowsBelow (jobsOf p) allBudgets) ++ drop (16 * count) (now (out .entry)) ⌝ }
+    requires { ⌜ Valid p × (count ≡ length (rowsBelow (jobsOf p) allBudgets)) × (count ≤ length (now out) / rowSize) ⌝ }
+    ensures { λ _. ⌜ now (out .exit) ≡ tableBytes (jobsOf p) (rowsBelow (jobsOf p) allBudgets) ++ drop (rowSize * count) (now (out .entry)) ⌝ }
 {
     let mut rows = [0u64; 768];
     let mut left = count;
@@ -83,6 +84,6 @@ fn write_rows(p: Profile, count: usize, out: &mut [u8])
         let found = table_climb::answers_below(p, limit, &mut rows);
         table_batch::write_batch(&rows, found, left, out);
         left -= found;
-        limit = table_batch::last_need(&rows, found);
+        limit = table_batch::last_need(&rows, found).0 as u64;
     }
 }

@@ -2,14 +2,12 @@
 -- Assumes nothing.
 use mathlib.Core.Path.{_≡_, _∙_, ap}
 use mathlib.Core.List.{List}
-use Prim.Native.Nat.{ℕ, _+_, _*_, _-_}
+use Prim.Native.Nat.{ℕ, _+_, _-_}
 use native.Mathlib.Numerals.{add-one}
-use lib.ListN.{getD}
-use Rattle.codec.specs.RowWords.{rowBytes, withRow}
-use Rattle.table_stairs.specs.Rows.{lowIn}
-use Rattle.table_batch.specs.Batch.{withBatch}
+use Rattle.codec.specs.RowWords.{withRow}
+use Rattle.table_batch.specs.Batch.{batchRow, withBatch}
 
 -- writing a batch, as the code does it
-pub batch-more : (flat old : List ℕ) (end k : ℕ) {out new : List ℕ} → out ≡ withBatch flat end k old → new ≡ withRow out (end - 1 - k) (rowBytes (getD flat (3 * k) 0) (lowIn flat k)) → new ≡ withBatch flat end (k + 1) old
+pub batch-more : (flat old : List ℕ) (end k : ℕ) {out new : List ℕ} → out ≡ withBatch flat end k old → new ≡ withRow out (end - 1 - k) (batchRow flat k) → new ≡ withBatch flat end (k + 1) old
 unfolding withBatch
-batch-more flat old end k e is = rw add-one (is ∙ ap (λ (l : List ℕ). withRow l (end - 1 - k) (rowBytes (getD flat (3 * k) 0) (lowIn flat k))) e)
+batch-more flat old end k e is = rw add-one (is ∙ ap (λ (l : List ℕ). withRow l (end - 1 - k) (batchRow flat k)) e)

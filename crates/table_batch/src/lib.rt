@@ -2,13 +2,11 @@
 //
 // specs/Batch.antt says where the rows go. These functions serve other crates of the planner, and their callers meet what
 // they require. Nothing is assumed.
+use model::PagesPerHour;
 ghost use mathlib.Core.Path.{_≡_};
 ghost use Prim.Native.Nat.{_-_, _≤_, _<_};
 ghost use Rattle.table_stairs.specs.Rows.{needIn};
 ghost use Rattle.table_batch.specs.Batch.{withBatch};
-
-// A need stands above 32 bits of periods.
-const NEED: u64 = 0x1_0000_0000;
 
 // A batch to the places before `end`, its first row last: needs fall in a batch and rise in a table.
 pub fn write_batch(rows: &[u64; 768], found: usize, end: usize, out: &mut [u8])
@@ -21,16 +19,16 @@ pub fn write_batch(rows: &[u64; 768], found: usize, end: usize, out: &mut [u8])
         let high = rows[3 * k];
         let low = rows[3 * k + 1];
         let place = end - 1 - k;
-        codec::put_row(out, place, high, low);
+        table_row::put_row(out, place, high, low);
         k += 1;
     }
 }
 
 // The need of the last of so many rows: what the next batch stays below.
-pub fn last_need(rows: &[u64; 768], found: usize) -> u64
+pub fn last_need(rows: &[u64; 768], found: usize) -> PagesPerHour
     requires { ⌜ 0 < found ⌝ }
     requires { ⌜ found ≤ 256 ⌝ }
-    ensures { λ r. ⌜ r ≡ needIn (now (rows .entry)) (found - 1) ⌝ }
+    ensures { λ r. ⌜ r .0 ≡ needIn (now (rows .entry)) (found - 1) ⌝ }
 {
-    rows[3 * (found - 1)] / NEED
+    table_row::start_of(rows[3 * (found - 1)])
 }

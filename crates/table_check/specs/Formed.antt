@@ -6,7 +6,7 @@ use mathlib.Core.List.{List}
 use Prim.Native.Nat.{ℕ, _+_, _%_, _≤_, _<_}
 use lib.ListN.{length, getD}
 use Rattle.model.specs.declared.Profile.{Profile}
-use Rattle.model.specs.Model.{seconds, jobsOf, periodsOf, Permitted}
+use Rattle.model.specs.Model.{seconds, jobsOf, periodsOf, Permitted, rowSize}
 use Rattle.table_row.specs.Table.{rowsIn, startAt, periodsAt, needAt, lossAt}
 
 -- A row by itself: permitted periods with zeros beyond n, and a start equal to their need (The table).
@@ -31,10 +31,10 @@ pub record FirstBadRow (p : Profile) (bytes : List ℕ) (k : ℕ) : Type 0 where
   pub bad : GoodRow p bytes k → ⊥
   pub before : (j : ℕ) → j < k → GoodRow p bytes j
 
--- A length that is a positive multiple of 16 (The table).
+-- A length that is a positive multiple of a row's size (The table).
 pub record WholeRows (bytes : List ℕ) : Type 0 where
   pub some : 1 ≤ length bytes
-  pub whole : length bytes % 16 ≡ 0
+  pub whole : length bytes % rowSize ≡ 0
 
 -- A well-formed table: such a length, and each row is good (The table).
 pub record WellFormed (p : Profile) (bytes : List ℕ) : Type 0 where

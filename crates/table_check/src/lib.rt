@@ -4,6 +4,7 @@
 // function serves other crates of the planner, and its callers meet what it requires. Nothing is assumed.
 use model::PagesPerHour;
 use model::Profile;
+use model::ROW_SIZE;
 use model::Seconds;
 ghost use Rattle.model.specs.Valid.{Valid};
 ghost use Rattle.table_check.specs.Checks.{Checked};
@@ -17,7 +18,7 @@ pub fn first_bad_row(p: Profile, table: &[u8]) -> usize
 {
     let n = p.n as usize;
     let rates = walk::rates_of(p);
-    let rows = table.len() / 16;
+    let rows = table.len() / ROW_SIZE;
     let mut start_before = PagesPerHour(0);
     let mut loss_before: u64 = 0;
     let mut k: usize = 0;

@@ -12,7 +12,7 @@ use lib.Seq.{getD-set-same, getD-set-other}
 use Rattle.model.specs.declared.PagesPerHour.{PagesPerHour}
 use Rattle.model.specs.Model.{seconds}
 use Rattle.table_stairs.specs.Stairs.{Stair, Stairs, noBound}
-use Rattle.table_stairs.specs.Rows.{rowAt, rowsFrom, stairsOf, Rises, Standing}
+use Rattle.table_stairs.specs.Rows.{stairAt, rowsFrom, stairsOf, Rises, Standing}
 use Rattle.table_climb.specs.Steps.{Climbs, Collects}
 use Rattle.table_climb.proofs.Order.{Above, Staircase}
 use Rattle.table_climb.proofs.Ordered.{Ordered}
@@ -20,17 +20,17 @@ use Rattle.table_climb.proofs.Ordered.{Ordered}
 -- what stands in the array is in order below the bound
 module _ (n : ℕ) (flat : List ℕ) where
   -- each row has its place
-  rows-in : (i k : ℕ) {r : Stair} → List·Memᴰ r (rowsFrom n flat i k) → (a : ℕ) × (i ≤ a) × (a < i + k) × (r ≡ rowAt n flat a)
+  rows-in : (i k : ℕ) {r : Stair} → List·Memᴰ r (rowsFrom n flat i k) → (a : ℕ) × (i ≤ a) × (a < i + k) × (r ≡ stairAt n flat a)
   unfolding rowsFrom
   rows-in i zero m = absurd (List·Memᴰ·not-nil m)
   rows-in i (suc k) m = ⊎-elim (λ e. (i, le-refl i, omega arith, e)) (λ o. (let a = rows-in (i + 1) k o in let from = a .1 in let to = a .2 in (a .0, omega arith, omega arith, a .3))) (List·Memᴰ·cases-cons m)
 
   rows-staircase : {count : ℕ} → Rises count flat → (i k : ℕ) → i + k ≤ count → Staircase (rowsFrom n flat i k)
-  unfolding rowsFrom rowAt
+  unfolding rowsFrom stairAt
   rows-staircase r i zero to = tt
   rows-staircase r i (suc k) to = (above, rows-staircase r (i + 1) k (omega arith))
     where
-      above : (s : Stair) → List·Memᴰ s (rowsFrom n flat (i + 1) k) → Above (rowAt n flat i) s
+      above : (s : Stair) → List·Memᴰ s (rowsFrom n flat (i + 1) k) → Above (stairAt n flat i) s
       above s m =
           let a = rows-in (i + 1) k m in
           let from = a .1 in
@@ -38,7 +38,7 @@ module _ (n : ℕ) (flat : List ℕ) where
           rw (a .3) (record { loses = r .loss-rises i (a .0) (omega arith) (omega arith); needs = r .need-falls i (a .0) (omega arith) (omega arith) })
 
 pub standing-ordered : {n : ℕ} {ps flat marks : List ℕ} → Standing n ps flat marks → Ordered (stairsOf n flat marks)
-unfolding rowAt
+unfolding stairAt
 standing-ordered {n} {ps} {flat} {marks} s = record { order = rows-staircase n flat (s .rises) 0 (getD marks 0 0) (omega arith); bounded = below }
   where
     below : (r : Stair) → List·Memᴰ r (rowsFrom n flat 0 (getD marks 0 0)) → r .its-loss < getD marks 1 0

@@ -1,8 +1,8 @@
 -- The next answers under a budget: what a staircase holds once all permitted lists were visited, and how a caller gets them.
 -- Contracts of inner functions cite this, and those of no entry point. Assumes nothing.
 use mathlib.Core.Path.{_≡_}
-use mathlib.Core.List.{List, [], _∷_, map}
-use Prim.Native.Nat.{ℕ, suc, _*_, _-_, _/_, _^_, _≤_, _<_}
+use mathlib.Core.List.{List, [], _∷_}
+use Prim.Native.Nat.{ℕ, suc, _-_, _≤_, _<_}
 use lib.ListN.{length, getD}
 use Rattle.model.specs.declared.Seconds.{Seconds}
 use Rattle.model.specs.declared.PagesPerHour.{PagesPerHour}
@@ -10,7 +10,7 @@ use Rattle.model.specs.declared.Job.{Job}
 use Rattle.model.specs.declared.Profile.{Profile}
 use Rattle.model.specs.Model.{pagesPerHour, jobsOf, Permitted, need, FitsBudget, loss, Best}
 use Rattle.table_stairs.specs.Stairs.{Stair}
-use Rattle.table_stairs.specs.Rows.{most, highWord, lowWord, lowIn, stairsIn}
+use Rattle.table_stairs.specs.Rows.{most, stairAt, stairsIn, Legible}
 
 -- A row is the best plan for the greatest budget below `limit`, with its own need and loss.
 pub record Answer (js : List Job) (limit : ℕ) (r : Stair) : Type 0 where
@@ -35,16 +35,10 @@ pub record AnswersUnder (js : List Job) (b : PagesPerHour) (rows : List Stair) :
   pub next : NextAnswers js (suc (b .0)) rows
   pub none : length rows ≡ 0 → (ts : List Seconds) → Permitted js ts → FitsBudget js ts b → ⊥
 
--- The two words of a row: its need and its periods, zeros beyond the last.
-pub record Words (r : Stair) (high low : ℕ) : Type 0 where
-  pub need-is : high / 2 ^ 32 ≡ r .its-need
-  pub high-is : high ≡ highWord (r .its-need) (map (λ t. t .0) (r .periods))
-  pub low-is : low ≡ lowWord (map (λ t. t .0) (r .periods))
-  pub low-fits : low < 2 ^ 64
-
 -- The first r rows of an array are the next answers for the budgets below `limit`.
 pub record AnswersBelow (p : Profile) (limit r : ℕ) (flat : List ℕ) : Type 0 where
   pub size : length flat ≡ 768
   pub few : r ≤ most
   pub under : AnswersUnder (jobsOf p) (pagesPerHour (limit - 1)) (stairsIn (p .n) r flat)
-  pub words : (d : Stair) (k : ℕ) → k < r → Words (getD (stairsIn (p .n) r flat) k d) (getD flat (3 * k) 0) (lowIn flat k)
+  pub rows : (d : Stair) (k : ℕ) → k < r → getD (stairsIn (p .n) r flat) k d ≡ stairAt (p .n) flat k
+  pub legible : (k : ℕ) → k < r → Legible (p .n) flat k

@@ -10,8 +10,8 @@ use Rattle.model.specs.declared.Counted.{Counted}
 use Rattle.model.specs.declared.Verdict.the-variants.{Sound}
 use Rattle.model.specs.Model.{jobsOf}
 use Rattle.model.proofs.Verdicts.{beside-sound}
-use Rattle.codec.specs.Rows.{tableRow}
 use Rattle.codec.specs.Fit.{Bytes}
+use Rattle.table_row.specs.Table.{tableRow}
 use Rattle.choose.specs.declared.Choice.{Choice}
 use Rattle.choose.specs.Choice.{Chosen}
 use Rattle.table.specs.Table.{Built}

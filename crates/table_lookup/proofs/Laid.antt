@@ -12,16 +12,16 @@ use Rattle.model.specs.declared.Job.{Job}
 use Rattle.model.specs.declared.Profile.{Profile}
 use Rattle.model.specs.Model.{seconds, pagesPerHour, noJob, entries, jobsOf, periodsOf, PermittedAfter, Permitted, need, loss, padded}
 use Rattle.model.specs.Valid.{ValidJobs, Valid}
-use Rattle.model.proofs.Entries.{length-entries, entries-front}
+use Rattle.model.proofs.Entries.{length-entries, entries-front, entries-all, entries-same}
 use Rattle.codec.specs.Packing.{bits, recut}
 use Rattle.codec.specs.Layout.{byteWidths}
-use Rattle.codec.specs.Rows.{tableWidths, tableRow}
 use Rattle.codec.specs.Fit.{Within, Bytes}
-use Rattle.codec.proofs.Packing.{recut-back, recut-within, length-recut}
+use Rattle.codec.proofs.Packing.{recut-back, recut-within}
 use Rattle.table.specs.Table.{tableBytes}
 use Rattle.table.proofs.Best.{need-small}
-use Rattle.table.proofs.TableRows.{getD-padded, same-entries, period-to}
-use Rattle.table_row.specs.Table.{rowFields, startAt, periodsAt, lossAt}
+use Rattle.table.proofs.TableRows.{getD-padded, period-to}
+use Rattle.table_row.specs.Table.{tableWidths, tableRow, rowFields, startAt, periodsAt, lossAt}
+use Rattle.table_row.proofs.Words.{seconds-again, length-table-row}
 
 -- One row.
 
@@ -32,18 +32,11 @@ permitted-length before [] (t ∷ ts) h = absurd h
 permitted-length before (j ∷ js) [] h = absurd h
 permitted-length before (j ∷ js) (t ∷ ts) h = ap suc (permitted-length t js ts (h .1))
 
-pub all-entries : (ts : List Seconds) (k : ℕ) → length ts ≡ k → entries (seconds 0) ts 0 k ≡ ts
-all-entries ts k size = ap₂ (λ (l : List Seconds) (n : ℕ). entries (seconds 0) l 0 n) (sym (append-nil ts)) (sym size) ∙ entries-front (seconds 0) ts []
-
 -- eight entries are the list and the zeros behind it
 eight-entries : (ts : List Seconds) → length ts ≤ 8 → entries (seconds 0) ts 0 8 ≡ padded (seconds 0) ts
 eight-entries ts few =
     let size : length (padded (seconds 0) ts) ≡ 8 = length-append ts (replicate (8 - length ts) (seconds 0)) ∙ omega (arith, length-replicate (8 - length ts) (seconds 0)) in
-    same-entries ts (padded (seconds 0) ts) 0 8 (λ j. sym (getD-padded ts (8 - length ts) j)) ∙ all-entries (padded (seconds 0) ts) 8 size
-
-seconds-again : (ts : List Seconds) → map seconds (map (λ t. t .0) ts) ≡ ts
-seconds-again [] = refl
-seconds-again (t ∷ ts) = ap (λ (l : List Seconds). t ∷ l) (seconds-again ts)
+    entries-same (seconds 0) ts (padded (seconds 0) ts) 0 8 (λ j. sym (getD-padded ts (8 - length ts) j)) ∙ entries-all (seconds 0) (padded (seconds 0) ts) size
 
 -- the numbers that a row holds: its start, which is the need, and eight periods
 abbrev pub fieldsFor : List Job → List Seconds → List ℕ
@@ -52,10 +45,6 @@ fieldsFor js ts = need js ts .0 ∷ map (λ t. t .0) (entries (seconds 0) ts 0 8
 pub row-bits : bits tableWidths ≡ bits (byteWidths 16)
 unfolding bits
 row-bits = refl
-
-length-table-row : (js : List Job) (ts : List Seconds) → length (tableRow (need js ts) ts) ≡ 16
-unfolding tableRow
-length-table-row js ts = length-recut tableWidths (byteWidths 16) (fieldsFor js ts)
 
 module _ (js : List Job) (v : ValidJobs js) (few : length js ≤ 8) (ts : List Seconds) (h : Permitted js ts) where
   fields-within : Within tableWidths (fieldsFor js ts)
@@ -78,7 +67,7 @@ module _ (js : List Job) (v : ValidJobs js) (few : length js ≤ 8) (ts : List S
 pub length-table : (js : List Job) (rows : List (List Seconds)) → length (tableBytes js rows) ≡ 16 * length rows
 unfolding tableBytes
 length-table js [] = refl
-length-table js (ts ∷ rows) = length-append (tableRow (need js ts) ts) (tableBytes js rows) ∙ omega (arith, length-table-row js ts, length-table js rows)
+length-table js (ts ∷ rows) = length-append (tableRow (need js ts) ts) (tableBytes js rows) ∙ omega (arith, length-table-row (need js ts) ts, length-table js rows)
 
 pub row-member : (rows : List (List Seconds)) (k : ℕ) → k < length rows → List·Memᴰ (getD rows k []) rows
 row-member [] k less = absurd (not-suc-le-zero less)
@@ -103,10 +92,10 @@ unfolding tableBytes
 row-there js [] rest k less = absurd (not-suc-le-zero less)
 row-there js (ts ∷ rows) rest zero less =
     let R = tableRow (need js ts) ts in
-    ap (take 16) (append-assoc R (tableBytes js rows) rest) ∙ take-at R (tableBytes js rows ++ rest) 16 (length-table-row js ts)
+    ap (take 16) (append-assoc R (tableBytes js rows) rest) ∙ take-at R (tableBytes js rows ++ rest) 16 (length-table-row (need js ts) ts)
 row-there js (ts ∷ rows) rest (suc k) less =
     let R = tableRow (need js ts) ts in
-    let place : 16 * suc k ≡ length R + 16 * k = omega (arith, length-table-row js ts) in
+    let place : 16 * suc k ≡ length R + 16 * k = omega (arith, length-table-row (need js ts) ts) in
     ap₂ (λ (n : ℕ) (l : List ℕ). take 16 (drop n l)) place (append-assoc R (tableBytes js rows) rest)
     ∙ ap (take 16) (drop-append-add R (tableBytes js rows ++ rest) (16 * k))
     ∙ row-there js rows rest k (le-of-suc-le-suc less)
@@ -131,7 +120,7 @@ table-is-bytes js v few (ts ∷ rows) all =
     let R = tableRow (need js ts) ts in
     let row : Within (byteWidths 16) R = row-within js v few ts (all ts (List·Memᴰ·head refl)) in
     let rest = table-is-bytes js v few rows (λ us m. all us (List·Memᴰ·tail m)) in
-    rw (length-append R (tableBytes js rows), length-table-row js ts) (within-append 16 (length (tableBytes js rows)) R (tableBytes js rows) row rest)
+    rw (length-append R (tableBytes js rows), length-table-row (need js ts) ts) (within-append 16 (length (tableBytes js rows)) R (tableBytes js rows) row rest)
 
 -- what is read at a row's place
 module _ (js : List Job) (v : ValidJobs js) (few : length js ≤ 8) {rows : List (List Seconds)} (all : AllPermitted js rows) {bytes : List ℕ} (l : Laid js rows bytes) (k : ℕ) (less : k < length rows) where

@@ -1,6 +1,6 @@
 -- A well-formed table is the bytes of the rows read in it: each row's bits are cut there and back.
 -- Assumes nothing.
-use mathlib.Core.Path.{_≡_, refl, sym, _∙_, ap, ap₂, subst}
+use mathlib.Core.Path.{_≡_, sym, _∙_, ap, ap₂, subst}
 use mathlib.Core.List.{List, [], _∷_, _++_, map, List·Memᴰ, List·Memᴰ·head, List·Memᴰ·tail, List·Memᴰ·not-nil, List·Memᴰ·cases-cons}
 use mathlib.Core.Logic.{⊎-elim}
 use Prim.Native.Nat.{ℕ, zero, suc, _+_, _*_, _-_, _≤_, _<_}
@@ -12,25 +12,20 @@ use lib.Seq.{drop-cons, drop-drop}
 use Rattle.model.specs.declared.Seconds.{Seconds}
 use Rattle.model.specs.declared.Profile.{Profile}
 use Rattle.model.specs.Model.{seconds, entries, jobsOf, periodsOf, need}
-use Rattle.model.proofs.Entries.{length-entries}
+use Rattle.model.proofs.Entries.{length-entries, entries-all, entries-same}
 use Rattle.codec.specs.Packing.{recut}
 use Rattle.codec.specs.Layout.{byteWidths}
-use Rattle.codec.specs.Rows.{tableWidths, tableRow}
 use Rattle.codec.specs.Fit.{Within, Bytes}
 use Rattle.codec.proofs.Packing.{recut-back, length-recut}
 use Rattle.codec.proofs.Bytes.{within-split}
 use Rattle.table.specs.Table.{Rising, tableBytes}
-use Rattle.table.proofs.TableRows.{same-entries}
-use Rattle.table_row.specs.Table.{rowsIn, rowFields, startAt, periodsAt}
+use Rattle.table_row.specs.Table.{tableWidths, tableRow, rowsIn, rowFields, startAt, periodsAt}
+use Rattle.table_row.proofs.Words.{numbers-again}
 use Rattle.table_check.specs.Formed.{GoodAlone, WellFormed}
 use Rattle.table_lookup.proofs.Finding.{starts-climb}
-use Rattle.table_lookup.proofs.Laid.{row-bits, all-entries}
+use Rattle.table_lookup.proofs.Laid.{row-bits}
 
 -- Bytes and fields.
-
-numbers-again : (xs : List ℕ) → map (λ t. t .0) (map seconds xs) ≡ xs
-numbers-again [] = refl
-numbers-again (x ∷ xs) = ap (λ (l : List ℕ). x ∷ l) (numbers-again xs)
 
 length-fields : (bytes : List ℕ) (k : ℕ) → length (rowFields bytes k) ≡ 9
 unfolding rowFields
@@ -50,7 +45,7 @@ pub row-kept : (bytes : List ℕ) (k : ℕ) → Bytes bytes → k < rowsIn bytes
 unfolding tableRow rowFields
 row-kept bytes k h less =
     let fs = rowFields bytes k in
-    let periods = ap (map (λ t. t .0)) (all-entries (periodsAt bytes k) 8 (length-periods bytes k)) ∙ numbers-again (drop 1 fs) in
+    let periods = ap (map (λ t. t .0)) (entries-all (seconds 0) (periodsAt bytes k) (length-periods bytes k)) ∙ numbers-again (drop 1 fs) in
     let fields = ap (λ (l : List ℕ). getD fs 0 0 ∷ l) periods ∙ sym (drop-cons fs 0 0 (omega (arith, length-fields bytes k))) in
     ap (recut tableWidths (byteWidths 16)) fields ∙ recut-back (byteWidths 16) tableWidths (take 16 (drop (16 * k) bytes)) (sym row-bits) (sixteen-within bytes k h less)
 
@@ -87,7 +82,7 @@ module _ (p : Profile) (bytes : List ℕ) where
     row-again : Bytes bytes → k < rowsIn bytes → tableRow (need (jobsOf p) (listAt p bytes k)) (listAt p bytes k) ≡ take 16 (drop (16 * k) bytes)
     unfolding tableRow
     row-again h less =
-        ap₂ (λ (q : ℕ) (ts : List Seconds). recut tableWidths (byteWidths 16) (q ∷ map (λ t. t .0) ts)) (g .start) (same-entries (listAt p bytes k) (periodsAt bytes k) 0 8 (λ j. same-period j (decLt j (p .n)) (decLt j 8)))
+        ap₂ (λ (q : ℕ) (ts : List Seconds). recut tableWidths (byteWidths 16) (q ∷ map (λ t. t .0) ts)) (g .start) (entries-same (seconds 0) (listAt p bytes k) (periodsAt bytes k) 0 8 (λ j. same-period j (decLt j (p .n)) (decLt j 8)))
         ∙ row-kept bytes k h less
 
   bytes-from : (m k : ℕ) → length bytes ≡ 16 * (k + m) → Bytes bytes → ((i : ℕ) → i < rowsIn bytes → GoodAlone p bytes i) → tableBytes (jobsOf p) (rowsFrom p bytes k m) ≡ drop (16 * k) bytes

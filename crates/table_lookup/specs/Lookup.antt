@@ -3,15 +3,14 @@
 -- Assumes nothing.
 use mathlib.Core.Path.{_≡_}
 use mathlib.Core.List.{List, []}
-use Prim.Native.Nat.{ℕ, _+_, _*_, _-_, _≤_, _<_}
-use lib.ListN.{take, drop}
+use Prim.Native.Nat.{ℕ, _+_, _-_, _≤_, _<_}
 use Rattle.model.specs.declared.PagesPerHour.{PagesPerHour}
 use Rattle.model.specs.declared.Profile.{Profile}
 use Rattle.model.specs.declared.Counted.{Counted}
 use Rattle.model.specs.declared.Verdict.{Verdict}
 use Rattle.model.specs.declared.Verdict.the-variants.{Sound, Budget, Row}
 use Rattle.model.specs.Model.{ifSound, ProfileFirst}
-use Rattle.table_row.specs.Table.{rowsIn, startAt}
+use Rattle.table_row.specs.Table.{rowsIn, rowPlace, bytesAt, startAt}
 use Rattle.table_check.specs.Formed.{FirstBadRow, WholeRows, WellFormed}
 
 -- The row that answers a budget: the last whose start is at most that (The table).
@@ -47,5 +46,5 @@ pub record JudgesLookup (p : Profile) (bytes : List ℕ) (b : PagesPerHour) (v :
 pub record LooksUp (p : Profile) (bytes : List ℕ) (lies : ℕ × ℕ) (b : PagesPerHour) (part : List ℕ) (at : ℕ × ℕ) : Type 0 where
   pub found : Counted
   pub located : Locates p bytes b found
-  pub holds : part ≡ ifSound (found .verdict) (take 16 (drop (16 * (found .count - 1)) bytes)) []
-  pub place : at ≡ (lies .0, lies .1 + 16 * (found .count - 1))
+  pub holds : part ≡ ifSound (found .verdict) (bytesAt bytes (found .count - 1)) []
+  pub place : at ≡ (lies .0, lies .1 + rowPlace (found .count - 1))

@@ -6,6 +6,7 @@
 use model::Counted;
 use model::PagesPerHour;
 use model::Profile;
+use model::ROW_SIZE;
 use model::Verdict;
 ghost use Prim.Native.Nat.{ℕ};
 ghost use denote.Ref.{ptr};
@@ -20,8 +21,8 @@ pub fn lookup<'a>(p: Profile, table: &'a [u8], budget: PagesPerHour) -> &'a [u8]
     let Verdict::Sound = v else {
         return &table[0..0];
     };
-    let end = 16 * (found.count as usize);
-    &table[end - 16..end]
+    let end = ROW_SIZE * (found.count as usize);
+    &table[end - ROW_SIZE..end]
 }
 
 // The number of that row, counted from 1; 0 beside a refusal.
@@ -53,7 +54,7 @@ pub fn judge_lookup(p: Profile, table: &[u8], budget: PagesPerHour) -> Verdict
     if table.len() == 0 {
         return Verdict::Row(0);
     }
-    if table.len() % 16 != 0 {
+    if table.len() % ROW_SIZE != 0 {
         return Verdict::Row(0);
     }
     let bad = table_check::first_bad_row(p, table);
@@ -72,7 +73,7 @@ fn last_within(table: &[u8], budget: PagesPerHour) -> usize
     requires { ⌜ ((k : ℕ) × Answers (now table) budget k) ⌝ }
     ensures { λ r. ⌜ Answers (now (table .entry)) budget r ⌝ }
 {
-    let mut k = table.len() / 16;
+    let mut k = table.len() / ROW_SIZE;
     while 0 < k {
         if table_row::start_at(table, k - 1).0 <= budget.0 {
             return k - 1;

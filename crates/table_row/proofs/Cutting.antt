@@ -6,12 +6,12 @@ use Prim.Native.Nat.{ℕ, _+_, _*_, _/_, _%_, _^_, _<_}
 use native.Mathlib.Nat.{div-one, mod-lt}
 use native.Mathlib.Omega.{arith}
 use lib.Pow.{pow-pos, shr-lt, shr-shr, split, high, low, mod-pow-add}
-use lib.ListN.{length, getD}
+use lib.ListN.{getD}
 use Rattle.codec.specs.Packing.{bits, unpack, recut}
 use Rattle.codec.specs.RowWords.{wordsAt}
-use Rattle.codec.specs.Rows.{tableWidths}
 use Rattle.codec.proofs.Rows.{row-words}
-use Rattle.table_row.specs.Table.{rowFields}
+use Rattle.table_row.specs.Table.{tableWidths, rowsIn, rowFields}
+use Rattle.table_row.specs.Cut.{wordFields, wordStart}
 
 module _ (h l m : ℕ) (small : l < 2 ^ 64) where
   top : (h * 2 ^ 64 + l) / 2 ^ (64 + m) ≡ h / 2 ^ m
@@ -49,8 +49,8 @@ low-five y = simp div-one
 abbrev pub cutFields : ℕ → ℕ → List ℕ
 cutFields h l = h / 2 ^ 32 ∷ h % 2 ^ 32 / 2 ^ 20 ∷ h % 2 ^ 32 % 2 ^ 20 / 2 ^ 8 ∷ (h % 2 ^ 32 % 2 ^ 20 % 2 ^ 8 * 16 + l / 2 ^ 60) ∷ lowFive (l % 2 ^ 60)
 
-pub cut-words : (h l : ℕ) → l < 2 ^ 64 → unpack tableWidths (h * 2 ^ 64 + l) ≡ cutFields h l
-unfolding unpack bits
+pub cut-words : (h l : ℕ) → l < 2 ^ 64 → wordFields h l ≡ cutFields h l
+unfolding wordFields unpack bits
 cut-words h l small =
     let h₁ = h % 2 ^ 32 in
     let h₂ = h₁ % 2 ^ 20 in
@@ -64,10 +64,10 @@ cut-words h l small =
     ∙ ap₂ _∷_ (across h₃ l) (ap (unpack (12 ∷ 12 ∷ 12 ∷ 12 ∷ 12 ∷ [])) (beyond h₃ l) ∙ low-five (l % 2 ^ 60)))))
 
 -- a row's fields are those of its two words
-pub fields-of-words : (bytes : List ℕ) (k : ℕ) → k < length bytes / 16 → unpack tableWidths (wordsAt bytes k .high * 2 ^ 64 + wordsAt bytes k .low) ≡ rowFields bytes k
-unfolding rowFields recut
+pub fields-of-words : (bytes : List ℕ) (k : ℕ) → k < rowsIn bytes → wordFields (wordsAt bytes k .high) (wordsAt bytes k .low) ≡ rowFields bytes k
+unfolding rowFields wordFields recut
 fields-of-words bytes k h = ap (unpack tableWidths) (sym (row-words bytes k h))
 
 -- and its start is the upper half of the first
-pub start-of-words : (bytes : List ℕ) (k : ℕ) → k < length bytes / 16 → wordsAt bytes k .low < 2 ^ 64 → wordsAt bytes k .high / 2 ^ 32 ≡ getD (rowFields bytes k) 0 0
+pub start-of-words : (bytes : List ℕ) (k : ℕ) → k < rowsIn bytes → wordsAt bytes k .low < 2 ^ 64 → wordStart (wordsAt bytes k .high) ≡ getD (rowFields bytes k) 0 0
 start-of-words bytes k h small = ap (λ (l : List ℕ). getD l 0 0) (sym (cut-words (wordsAt bytes k .high) (wordsAt bytes k .low) small) ∙ fields-of-words bytes k h)

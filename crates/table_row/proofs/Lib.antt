@@ -1,2 +1,3 @@
 pub mod Cutting
 pub mod OneOutcome
+pub mod Words

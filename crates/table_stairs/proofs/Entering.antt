@@ -13,7 +13,7 @@ use Rattle.model.specs.declared.PagesPerHour.{PagesPerHour}
 use Rattle.step.specs.Step.{needAt}
 use Rattle.walk.specs.Steps.{periodsIn}
 use Rattle.table_stairs.specs.Stairs.{Stair, stair, covered, losingLess, needingLess, among, atMost, enter}
-use Rattle.table_stairs.specs.Rows.{most, needIn, lossIn, rowAt, rowsFrom, stairsOf, Rises, LosesLess, Covers, NeedsLess, Place, Standing, Puts, Enters}
+use Rattle.table_stairs.specs.Rows.{most, needIn, lossIn, stairAt, rowsFrom, stairsOf, Rises, LosesLess, Covers, NeedsLess, Place, Standing, Puts, Enters}
 use Rattle.table_stairs.proofs.Updates.{enter-over, enter-bound, enter-covered, enter-new}
 use Rattle.table_stairs.proofs.Rows.{rows-split}
 
@@ -86,7 +86,7 @@ module _ {k : ℕ} {flat : List ℕ} (r : Rises k flat) where
 module _ (n : ℕ) (flat : List ℕ) (q l : ℕ) where
   -- a row covers
   pub row-covers : (i k a : ℕ) → i ≤ a → a < i + k → needIn flat a ≤ q → lossIn flat a ≤ l → covered q l (rowsFrom n flat i k) ≡ true
-  unfolding covered rowsFrom rowAt
+  unfolding covered rowsFrom stairAt
   row-covers i zero a from to needs loses = absurd (omega arith)
   row-covers i (suc k) a from to needs loses = go (ℕ-discrete i a) (λ more. row-covers (i + 1) k a more (omega arith) needs loses)
     where
@@ -99,7 +99,7 @@ module _ (n : ℕ) (flat : List ℕ) (q l : ℕ) where
 
   -- no row does
   pub no-row-covers : (i k : ℕ) → ((a : ℕ) → i ≤ a → a < i + k → lossIn flat a ≤ l → q < needIn flat a) → covered q l (rowsFrom n flat i k) ≡ false
-  unfolding covered rowsFrom rowAt
+  unfolding covered rowsFrom stairAt
   no-row-covers i zero h = refl
   no-row-covers i (suc k) h = go (decLt l (lossIn flat i)) (no-row-covers (i + 1) k (λ a from to. h a (omega arith) (omega arith)))
     where
@@ -109,22 +109,22 @@ module _ (n : ℕ) (flat : List ℕ) (q l : ℕ) where
 
   -- the rows in front, and those behind
   losing-all : (i k : ℕ) (rest : List Stair) → ((a : ℕ) → i ≤ a → a < i + k → lossIn flat a < l) → losingLess l (rowsFrom n flat i k ++ rest) ≡ rowsFrom n flat i k ++ losingLess l rest
-  unfolding losingLess rowsFrom rowAt
+  unfolding losingLess rowsFrom stairAt
   losing-all i zero rest h = refl
-  losing-all i (suc k) rest h = rw (lt-ltb (lossIn flat i) l (h i (omega arith) (omega arith))) (ap (λ (xs : List Stair). rowAt n flat i ∷ xs) (losing-all (i + 1) k rest (λ a from to. h a (omega arith) (omega arith))))
+  losing-all i (suc k) rest h = rw (lt-ltb (lossIn flat i) l (h i (omega arith) (omega arith))) (ap (λ (xs : List Stair). stairAt n flat i ∷ xs) (losing-all (i + 1) k rest (λ a from to. h a (omega arith) (omega arith))))
 
   losing-none : (i k : ℕ) → (0 < k → l ≤ lossIn flat i) → losingLess l (rowsFrom n flat i k) ≡ []
-  unfolding losingLess rowsFrom rowAt
+  unfolding losingLess rowsFrom stairAt
   losing-none i zero h = refl
   losing-none i (suc k) h = rw (le-ltb (lossIn flat i) l (h (omega arith)))
 
   needing-none : (i k : ℕ) (rest : List Stair) → ((a : ℕ) → i ≤ a → a < i + k → q ≤ needIn flat a) → needingLess q (rowsFrom n flat i k ++ rest) ≡ needingLess q rest
-  unfolding needingLess rowsFrom rowAt
+  unfolding needingLess rowsFrom stairAt
   needing-none i zero rest h = refl
   needing-none i (suc k) rest h = rw (le-ltb (needIn flat i) q (h i (omega arith) (omega arith))) (needing-none (i + 1) k rest (λ a from to. h a (omega arith) (omega arith)))
 
   needing-all : (i k : ℕ) → (0 < k → needIn flat i < q) → needingLess q (rowsFrom n flat i k) ≡ rowsFrom n flat i k
-  unfolding needingLess rowsFrom rowAt
+  unfolding needingLess rowsFrom stairAt
   needing-all i zero h = refl
   needing-all i (suc k) h = rw (lt-ltb (needIn flat i) q (h (omega arith)))
 

@@ -8,7 +8,7 @@ use lib.ListN.{length, getD, set, length-set, length-append}
 use lib.Seq.{take-at, getD-at, getD-set-same, getD-set-other}
 use Rattle.walk.specs.Steps.{periodsIn}
 use Rattle.table_stairs.specs.Stairs.{Stair, stair, Stairs, atMost}
-use Rattle.table_stairs.specs.Rows.{most, lossIn, rowAt, rowsFrom, Rises, Legible, Moved, Stored, Place, Standing, Puts}
+use Rattle.table_stairs.specs.Rows.{most, lossIn, stairAt, rowsFrom, Rises, Legible, Moved, Stored, Place, Standing, Puts}
 use Rattle.table_stairs.proofs.Updates.{at-most-all, at-most-cut}
 use Rattle.table_stairs.proofs.Rows.{rows-length, rows-split, moved-stored, between-rows, between-rises, between-bounded, between-legible}
 
@@ -52,7 +52,7 @@ module _ {n q l i j : ℕ} {ps flat marks : List ℕ} (s : Standing n ps flat ma
   module _ (full : getD marks 0 0 ≡ 256) (same : j ≡ i) where
     -- the last row leaves
     pub puts-crowded : {flat₁ flat′ : List ℕ} → i < 256 → Moved i i 255 flat flat₁ → Stored i q l ps flat₁ flat′ → Puts n q l i j ps flat marks flat′ (set marks 1 (lossIn flat 255))
-    unfolding rowsFrom rowAt
+    unfolding rowsFrom stairAt
     puts-crowded {flat₁} {flat′} room m t =
         let two = s .marks-size in
         let most-k = s .count-to in
@@ -70,13 +70,13 @@ module _ {n q l i j : ℕ} {ps flat marks : List ℕ} (s : Standing n ps flat ma
         let size : length xs ≡ most = simp (length-append, rows-length n flat 0 i, rows-length n flat i (255 - i)) (omega arith) in
         let more : getD marks 0 0 - j ≡ (255 - i) + 1 = omega arith in
         let at : i + (255 - i) ≡ 255 = omega arith in
-        let last : rowsFrom n flat j (getD marks 0 0 - j) ≡ rowsFrom n flat i (255 - i) ++ (rowAt n flat 255 ∷ []) =
-        ap₂ (rowsFrom n flat) same more ∙ rows-split n flat i (255 - i) 1 ∙ ap (λ (x : ℕ). rowsFrom n flat i (255 - i) ++ (rowAt n flat x ∷ [])) at in
-        let all : rowsFrom n flat 0 i ++ (new ∷ rowsFrom n flat j (getD marks 0 0 - j)) ≡ xs ++ (rowAt n flat 255 ∷ []) =
-        ap (λ (ys : List Stair). rowsFrom n flat 0 i ++ (new ∷ ys)) last ∙ sym (append-assoc (rowsFrom n flat 0 i) (new ∷ rowsFrom n flat i (255 - i)) (rowAt n flat 255 ∷ [])) in
+        let last : rowsFrom n flat j (getD marks 0 0 - j) ≡ rowsFrom n flat i (255 - i) ++ (stairAt n flat 255 ∷ []) =
+        ap₂ (rowsFrom n flat) same more ∙ rows-split n flat i (255 - i) 1 ∙ ap (λ (x : ℕ). rowsFrom n flat i (255 - i) ++ (stairAt n flat x ∷ [])) at in
+        let all : rowsFrom n flat 0 i ++ (new ∷ rowsFrom n flat j (getD marks 0 0 - j)) ≡ xs ++ (stairAt n flat 255 ∷ []) =
+        ap (λ (ys : List Stair). rowsFrom n flat 0 i ++ (new ∷ ys)) last ∙ sym (append-assoc (rowsFrom n flat 0 i) (new ∷ rowsFrom n flat i (255 - i)) (stairAt n flat 255 ∷ [])) in
         record {
           stands = record { periods = s .periods; blank = s .blank; rows-size = t .size; marks-size = length-set marks 1 (lossIn flat 255) ∙ two; count-to = omega arith; rises = rw count rises; bounded = rw (count, bound) bounded; legible = rw count legible };
-          is = stairs-same (ap (rowsFrom n flat′ 0) count ∙ rows) bound ∙ sym (ap (λ (ys : List Stair). atMost most ys (getD marks 1 0)) all ∙ crowded xs (rowAt n flat 255) (getD marks 1 0) size);
+          is = stairs-same (ap (rowsFrom n flat′ 0) count ∙ rows) bound ∙ sym (ap (λ (ys : List Stair). atMost most ys (getD marks 1 0)) all ∙ crowded xs (stairAt n flat 255) (getD marks 1 0) size);
         }
 
     -- the plan itself would be the one too many

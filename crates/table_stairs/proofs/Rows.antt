@@ -2,14 +2,15 @@
 -- Assumes nothing.
 use mathlib.Core.Path.{_≡_, refl, sym, _∙_, ap, ap₂, subst}
 use mathlib.Core.List.{List, _∷_, _++_}
-use Prim.Native.Nat.{ℕ, zero, suc, _+_, _*_, _-_, _/_, _^_, _≤_, _<_}
+use Prim.Native.Nat.{ℕ, zero, suc, _+_, _*_, _-_, _≤_, _<_}
 use native.Mathlib.Omega.{arith}
 use native.Mathlib.Decide.{decLt}
 use lib.ListN.{length, getD}
 use Rattle.model.specs.declared.Seconds.{Seconds}
 use Rattle.walk.specs.Steps.{periodsIn}
+use Rattle.table_row.specs.Cut.{wordStart, wordPeriods}
 use Rattle.table_stairs.specs.Stairs.{Stair, stair}
-use Rattle.table_stairs.specs.Rows.{periodsOf, needIn, lossIn, periodsAt, rowAt, rowsFrom, lowIn, Rises, Moved, Blank, Legible, Stored, Place}
+use Rattle.table_stairs.specs.Rows.{needIn, lossIn, stairPeriods, stairAt, rowsFrom, Rises, Moved, Blank, Legible, Stored, Place}
 
 stair-same : {q q′ l l′ : ℕ} {ts ts′ : List Seconds} → q ≡ q′ → l ≡ l′ → ts ≡ ts′ → stair q l ts ≡ stair q′ l′ ts′
 stair-same a b c = rw (a, b, c)
@@ -23,20 +24,20 @@ module _ (flat flat′ : List ℕ) (a b : ℕ) (h : (m : ℕ) → m < 3 → getD
       sym (ap (λ (z : ℕ). getD flat z 0) x) ∙ h 0 (omega arith) ∙ ap (λ (z : ℕ). getD flat′ z 0) y
 
   pub need-same : needIn flat a ≡ needIn flat′ b
-  need-same = ap (λ (x : ℕ). x / 2 ^ 32) high-same
+  need-same = ap wordStart high-same
 
   pub loss-same : lossIn flat a ≡ lossIn flat′ b
   loss-same = h 2 (omega arith)
 
-  pub periods-same : periodsAt flat a ≡ periodsAt flat′ b
-  periods-same = ap₂ periodsOf high-same (h 1 (omega arith))
+  pub periods-same : stairPeriods flat a ≡ stairPeriods flat′ b
+  periods-same = ap₂ wordPeriods high-same (h 1 (omega arith))
 
-  pub row-same : (n : ℕ) → rowAt n flat a ≡ rowAt n flat′ b
-  unfolding rowAt
+  pub row-same : (n : ℕ) → stairAt n flat a ≡ stairAt n flat′ b
+  unfolding stairAt
   row-same n = stair-same need-same loss-same (ap (periodsIn n) periods-same)
 
   pub legible-same : (n : ℕ) → Legible n flat′ b → Legible n flat a
-  legible-same n r = record { blank = subst (Blank n) (sym periods-same) (r .blank); low-fits = omega (arith, h 1 (omega arith), r .low-fits) }
+  legible-same n r = subst (Blank n) (sym periods-same) r
 
 module _ (n : ℕ) (flat : List ℕ) where
   pub rows-length : (i k : ℕ) → length (rowsFrom n flat i k) ≡ k
@@ -53,9 +54,9 @@ module _ (n : ℕ) (flat : List ℕ) where
   rows-split i (suc a) b =
       let e : suc a + b ≡ suc (a + b) = omega arith in
       let d : i + 1 + a ≡ i + suc a = omega arith in
-      ap (rowsFrom n flat i) e ∙ ap (λ (l : List Stair). rowAt n flat i ∷ l) (rows-split (i + 1) a b ∙ ap (λ (x : ℕ). rowsFrom n flat (i + 1) a ++ rowsFrom n flat x b) d)
+      ap (rowsFrom n flat i) e ∙ ap (λ (l : List Stair). stairAt n flat i ∷ l) (rows-split (i + 1) a b ∙ ap (λ (x : ℕ). rowsFrom n flat (i + 1) a ++ rowsFrom n flat x b) d)
 
-pub rows-same : (n : ℕ) (flat flat′ : List ℕ) (i j k : ℕ) → ((x : ℕ) → x < k → rowAt n flat (i + x) ≡ rowAt n flat′ (j + x)) → rowsFrom n flat i k ≡ rowsFrom n flat′ j k
+pub rows-same : (n : ℕ) (flat flat′ : List ℕ) (i j k : ℕ) → ((x : ℕ) → x < k → stairAt n flat (i + x) ≡ stairAt n flat′ (j + x)) → rowsFrom n flat i k ≡ rowsFrom n flat′ j k
 unfolding rowsFrom
 rows-same n flat flat′ i j zero h = refl
 rows-same n flat flat′ i j (suc k) h =
@@ -63,7 +64,7 @@ rows-same n flat flat′ i j (suc k) h =
     let b : j + 0 ≡ j = omega arith in
     ap₂ (λ (r : Stair) (rows : List Stair). r ∷ rows) (rw (a, b) at (h 0 (omega arith))) (rows-same n flat flat′ (i + 1) (j + 1) k on)
   where
-    on : (x : ℕ) → x < k → rowAt n flat (i + 1 + x) ≡ rowAt n flat′ (j + 1 + x)
+    on : (x : ℕ) → x < k → stairAt n flat (i + 1 + x) ≡ stairAt n flat′ (j + 1 + x)
     on x less =
         let a : i + 1 + x ≡ i + suc x = omega arith in
         let b : j + 1 + x ≡ j + suc x = omega arith in
@@ -75,8 +76,7 @@ pub record Between (i j e q l : ℕ) (ps flat flat′ : List ℕ) : Type 0 where
   pub front : (a m : ℕ) → a < i → m < 3 → getD flat′ (3 * a + m) 0 ≡ getD flat (3 * a + m) 0
   pub its-need : needIn flat′ i ≡ q
   pub its-loss : lossIn flat′ i ≡ l
-  pub periods : periodsAt flat′ i ≡ ps
-  pub low-fits : lowIn flat′ i < 2 ^ 64
+  pub periods : stairPeriods flat′ i ≡ ps
   pub behind : (a m : ℕ) → a < e - j → m < 3 → getD flat′ (3 * (i + 1 + a) + m) 0 ≡ getD flat (3 * (j + a) + m) 0
 
 pub moved-stored : {i j e q l : ℕ} {ps flat flat₁ flat′ : List ℕ} → Moved i j e flat flat₁ → Stored i q l ps flat₁ flat′ → Between i j e q l ps flat flat′
@@ -87,7 +87,6 @@ moved-stored {i} {j} {e} {q} {l} {ps} {flat} {flat₁} {flat′} m s =
       its-need = s .its-need;
       its-loss = s .its-loss;
       periods = s .periods;
-      low-fits = s .low-fits;
       behind = later;
     }
   where
@@ -100,11 +99,11 @@ moved-stored {i} {j} {e} {q} {l} {ps} {flat} {flat₁} {flat′} m s =
 module _ {i j e q l k : ℕ} {ps flat flat′ : List ℕ} (within : e ≤ k) (p : Place k flat q l i j) (b : Between i j e q l ps flat flat′) where
   -- the rows as a list
   pub between-rows : (n : ℕ) → rowsFrom n flat′ 0 (i + 1 + (e - j)) ≡ rowsFrom n flat 0 i ++ (stair q l (periodsIn n ps) ∷ rowsFrom n flat j (e - j))
-  unfolding rowsFrom rowAt
+  unfolding rowsFrom stairAt
   between-rows n =
       let d : i + 1 + (e - j) ≡ i + suc (e - j) = omega arith in
       let z : 0 + i ≡ i = omega arith in
-      let new : rowAt n flat′ i ≡ stair q l (periodsIn n ps) = stair-same (b .its-need) (b .its-loss) (ap (periodsIn n) (b .periods)) in
+      let new : stairAt n flat′ i ≡ stair q l (periodsIn n ps) = stair-same (b .its-need) (b .its-loss) (ap (periodsIn n) (b .periods)) in
       ap (rowsFrom n flat′ 0) d ∙ rows-split n flat′ 0 i (suc (e - j)) ∙ ap₂ (λ (xs ys : List Stair). xs ++ ys) before (ap (λ (x : ℕ). rowsFrom n flat′ x (suc (e - j))) z ∙ ap₂ (λ (r : Stair) (rows : List Stair). r ∷ rows) new after)
     where
       before : rowsFrom n flat′ 0 i ≡ rowsFrom n flat 0 i
@@ -131,7 +130,7 @@ module _ {i j e q l k : ℕ} {ps flat flat′ : List ℕ} (within : e ≤ k) (p 
     pub between-legible : {n : ℕ} → Blank n ps → ((c : ℕ) → c < e → Legible n flat c) → Legible n flat′ a
     between-legible {n} new old = each (Legible n flat′ a)
         (λ c less same. legible-same flat′ flat a c same n (old c less))
-        (λ is. subst (Legible n flat′) (sym is) (record { blank = subst (Blank n) (sym (b .periods)) new; low-fits = b .low-fits }))
+        (λ is. subst (Legible n flat′) (sym is) (subst (Blank n) (sym (b .periods)) new))
 
     -- all lose less than a bound
     pub between-bounded : {bound : ℕ} → l < bound → ((c : ℕ) → c < e → lossIn flat c < bound) → lossIn flat′ a < bound

@@ -3,33 +3,22 @@
 use mathlib.Core.Path.{_≡_}
 use mathlib.Core.Bool.{Bool, true, false}
 use mathlib.Core.List.{List, [], _∷_, _++_}
-use Prim.Native.Nat.{ℕ, zero, suc, _+_, _*_, _-_, _/_, _%_, _^_, _≤_, _<_}
+use Prim.Native.Nat.{ℕ, zero, suc, _+_, _*_, _-_, _≤_, _<_}
 use lib.ListN.{length, getD}
 use Rattle.model.specs.declared.Seconds.{Seconds}
 use Rattle.model.specs.declared.PagesPerHour.{PagesPerHour}
 use Rattle.step.specs.Step.{needAt}
 use Rattle.walk.specs.Steps.{periodsIn, ChangesNothing}
+use Rattle.table_row.specs.Cut.{wordStart, wordPeriods}
 use Rattle.table_stairs.specs.Stairs.{Stair, stair, Stairs, atMost, enter}
 
 -- The greatest number of rows.
 abbrev pub most : ℕ
 most = 256
 
--- The two words of a need and eight periods: the third period stands in both.
-abbrev pub highWord : ℕ → List ℕ → ℕ
-highWord q ps = q * 2 ^ 32 + (getD ps 0 0 * 2 ^ 20 + (getD ps 1 0 * 2 ^ 8 + getD ps 2 0 / 2 ^ 4))
-
-abbrev pub lowWord : List ℕ → ℕ
-lowWord ps = getD ps 2 0 % 2 ^ 4 * 2 ^ 60 + (getD ps 3 0 * 2 ^ 48 + (getD ps 4 0 * 2 ^ 36 + (getD ps 5 0 * 2 ^ 24 + (getD ps 6 0 * 2 ^ 12 + getD ps 7 0))))
-
--- The eight periods of two words.
-unfoldable pub periodsOf : ℕ → ℕ → List ℕ
-periodsOf high low =
-    (high % 2 ^ 32 / 2 ^ 20) ∷ ((high % 2 ^ 20 / 2 ^ 8) ∷ ((high % 2 ^ 8 * 2 ^ 4 + low / 2 ^ 60) ∷
-    ((low % 2 ^ 60 / 2 ^ 48) ∷ ((low % 2 ^ 48 / 2 ^ 36) ∷ ((low % 2 ^ 36 / 2 ^ 24) ∷ ((low % 2 ^ 24 / 2 ^ 12) ∷ ((low % 2 ^ 12) ∷ [])))))))
-
+-- The numbers at place i: the need, the second word and the loss.
 abbrev pub needIn : List ℕ → ℕ → ℕ
-needIn flat i = getD flat (3 * i) 0 / 2 ^ 32
+needIn flat i = wordStart (getD flat (3 * i) 0)
 
 abbrev pub lowIn : List ℕ → ℕ → ℕ
 lowIn flat i = getD flat (3 * i + 1) 0
@@ -38,17 +27,17 @@ abbrev pub lossIn : List ℕ → ℕ → ℕ
 lossIn flat i = getD flat (3 * i + 2) 0
 
 -- The eight periods at place i.
-abbrev pub periodsAt : List ℕ → ℕ → List ℕ
-periodsAt flat i = periodsOf (getD flat (3 * i) 0) (lowIn flat i)
+abbrev pub stairPeriods : List ℕ → ℕ → List ℕ
+stairPeriods flat i = wordPeriods (getD flat (3 * i) 0) (lowIn flat i)
 
 -- The row at place i, with n periods.
-unfoldable pub rowAt : ℕ → List ℕ → ℕ → Stair
-rowAt n flat i = stair (needIn flat i) (lossIn flat i) (periodsIn n (periodsAt flat i))
+unfoldable pub stairAt : ℕ → List ℕ → ℕ → Stair
+stairAt n flat i = stair (needIn flat i) (lossIn flat i) (periodsIn n (stairPeriods flat i))
 
 -- k rows from place i on.
 unfoldable pub rowsFrom : ℕ → List ℕ → ℕ → ℕ → List Stair
 rowsFrom n flat i zero = []
-rowsFrom n flat i (suc k) = rowAt n flat i ∷ rowsFrom n flat (i + 1) k
+rowsFrom n flat i (suc k) = stairAt n flat i ∷ rowsFrom n flat (i + 1) k
 
 -- The first k rows.
 abbrev pub stairsIn : ℕ → ℕ → List ℕ → List Stair
@@ -103,26 +92,13 @@ pub record Periods (ps : List ℕ) : Type 0 where
   pub size : length ps ≡ 8
   pub to : (k : ℕ) → getD ps k 0 ≤ 3600
 
--- Periods that fit their fields.
-pub record Fields (ps : List ℕ) : Type 0 where
-  pub size : length ps ≡ 8
-  pub t1 : getD ps 0 0 ≤ 3600
-  pub t2 : getD ps 1 0 ≤ 3600
-  pub t3 : getD ps 2 0 ≤ 3600
-  pub t4 : getD ps 3 0 ≤ 3600
-  pub t5 : getD ps 4 0 ≤ 3600
-  pub t6 : getD ps 5 0 ≤ 3600
-  pub t7 : getD ps 6 0 ≤ 3600
-  pub t8 : getD ps 7 0 ≤ 3600
-
 -- No period stands from place n on.
 abbrev pub Blank : ℕ → List ℕ → Type 0
 Blank n ps = (k : ℕ) → n ≤ k → getD ps k 0 ≡ 0
 
--- The row at place i has n periods in two words of 64 bits.
-pub record Legible (n : ℕ) (flat : List ℕ) (i : ℕ) : Type 0 where
-  pub blank : Blank n (periodsAt flat i)
-  pub low-fits : lowIn flat i < 2 ^ 64
+-- The row at place i has n periods.
+abbrev pub Legible : ℕ → List ℕ → ℕ → Type 0
+Legible n flat i = Blank n (stairPeriods flat i)
 
 -- The row at place i is this plan, and the other rows stand.
 pub record Stored (i need loss : ℕ) (ps flat flat′ : List ℕ) : Type 0 where
@@ -131,8 +107,7 @@ pub record Stored (i need loss : ℕ) (ps flat flat′ : List ℕ) : Type 0 wher
   pub behind : (x : ℕ) → 3 * (i + 1) ≤ x → getD flat′ x 0 ≡ getD flat x 0
   pub its-need : needIn flat′ i ≡ need
   pub its-loss : lossIn flat′ i ≡ loss
-  pub periods : periodsAt flat′ i ≡ ps
-  pub low-fits : lowIn flat′ i < 2 ^ 64
+  pub periods : stairPeriods flat′ i ≡ ps
 
 -- A plan of need q and loss l belongs to place i of k rows: the rows before lose less and need more, those from place j on
 -- lose more and need less, and those between, which do not cover it, have no less of both.

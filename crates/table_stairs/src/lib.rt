@@ -11,13 +11,10 @@ ghost use lib.ListN.{length, getD};
 ghost use Rattle.step.specs.Step.{NeedFits};
 ghost use Rattle.walk.specs.Steps.{ReadyForCut};
 ghost use Rattle.table_stairs.specs.Stairs.{noBound};
-ghost use Rattle.table_stairs.specs.Rows.{highWord, lowWord, Periods, Fields, Rises, LosesLess, PlacesRise, PlacesLoseLess, Covers, NeedsLess, Moved, Stored, Place, Standing, Puts, Enters, EntersNothing};
+ghost use Rattle.table_stairs.specs.Rows.{Periods, Rises, LosesLess, PlacesRise, PlacesLoseLess, Covers, NeedsLess, Moved, Stored, Place, Standing, Puts, Enters, EntersNothing};
 
 // Where a row has its loss, behind its two words.
-const LOSS: usize = 2;
-
-// A need stands above 32 bits of periods.
-const NEED: u64 = 0x1_0000_0000;
+const LOSS_PLACE: usize = 2;
 
 // The greatest number of rows, and where the last of them has its loss.
 const MOST: usize = 256;
@@ -144,8 +141,8 @@ fn covers(rows: &[u64; 768], count: usize, need: PagesPerHour, loss: u64) -> boo
     if k == 0 {
         return false;
     }
-    let least = rows[3 * (k - 1)] / NEED;
-    if (need.0 as u64) < least {
+    let least = table_row::start_of(rows[3 * (k - 1)]);
+    if need.0 < least.0 {
         return false;
     }
     true
@@ -179,7 +176,7 @@ fn places_losing_less(
     let mut less: usize = 0;
     let mut x: usize = 0;
     while x < times {
-        if rows[3 * (first + step * x) + LOSS] < loss {
+        if rows[3 * (first + step * x) + LOSS_PLACE] < loss {
             less += 1;
         }
         x += 1;
@@ -193,10 +190,9 @@ fn needing_less(rows: &[u64; 768], i: usize, count: usize, need: PagesPerHour) -
     requires { ⌜ count ≤ 256 ⌝ }
     ensures { λ r. ⌜ NeedsLess (now (rows .entry)) i count (need .0) r ⌝ }
 {
-    let least = need.0 as u64;
     let mut j = i;
     while j < count {
-        if rows[3 * j] / NEED < least {
+        if table_row::start_of(rows[3 * j]).0 < need.0 {
             return j;
         }
         j += 1;
@@ -250,29 +246,8 @@ fn store_row(need: PagesPerHour, loss: u64, periods: &[u32; 8], i: usize, rows: 
     ensures { λ _. ⌜ Stored i (need .0) loss (now (periods .entry)) (now (rows .entry)) (now (rows .exit)) ⌝ }
 {
     let first = 3 * i;
-    rows[first] = high_word(need, periods);
-    rows[first + 1] = low_word(periods);
-    rows[first + LOSS] = loss;
-}
-
-// The first eight bytes of a table row: the need, the first two periods and the eight high bits of the third.
-fn high_word(need: PagesPerHour, periods: &[u32; 8]) -> u64
-    requires { ⌜ Fields (now periods) ⌝ }
-    ensures { λ r. ⌜ r ≡ highWord (need .0) (now (periods .entry)) ⌝ }
-{
-    walk::wide(need.0) * NEED
-        + (walk::wide(periods[0]) * 0x10_0000
-            + (walk::wide(periods[1]) * 0x100 + walk::wide(periods[2]) / 0x10))
-}
-
-// The last eight bytes: the four low bits of the third period and the last five.
-fn low_word(periods: &[u32; 8]) -> u64
-    requires { ⌜ Fields (now periods) ⌝ }
-    ensures { λ r. ⌜ r ≡ lowWord (now (periods .entry)) ⌝ }
-{
-    walk::wide(periods[2]) % 0x10 * 0x1000_0000_0000_0000
-        + (walk::wide(periods[3]) * 0x1_0000_0000_0000
-            + (walk::wide(periods[4]) * 0x10_0000_0000
-                + (walk::wide(periods[5]) * 0x100_0000
-                    + (walk::wide(periods[6]) * 0x1000 + walk::wide(periods[7])))))
+    let words = table_row::row_words(need, periods);
+    rows[first] = words.high;
+    rows[first + 1] = words.low;
+    rows[first + LOSS_PLACE] = loss;
 }

@@ -8,7 +8,8 @@ use native.Mathlib.Omega.{arith}
 use native.Mathlib.Decide.{decLt}
 use lib.ListN.{length, getD, take, drop, replicate, length-append, length-take, length-drop, List·getD-eq-default, take-append-drop}
 use lib.Seq.{getD-take, getD-drop, take-at, drop-at, drop-drop, drop-append-add, append-snoc, length-take-le}
-use Rattle.model.specs.Model.{entries}
+use Rattle.model.specs.Model.{entries, rowSize}
+use Rattle.model.proofs.Entries.{entries-same}
 use Rattle.codec.specs.Packing.{bits, pack, recut}
 use Rattle.codec.specs.Layout.{byteWidths}
 use Rattle.codec.specs.RowWords.{rowBytes, withRow}
@@ -48,11 +49,6 @@ module _ (n : ℕ) (ms : List ℕ) (beyond : drop n ms ≡ drop n (replicate 8 0
       go (yes h) = each j h
       go (no h) = omega (arith, zero-from j (omega arith))
 
-same-entries : (xs ys : List ℕ) (i k : ℕ) → ((j : ℕ) → getD xs j 0 ≡ getD ys j 0) → entries 0 xs i k ≡ entries 0 ys i k
-unfolding entries
-same-entries xs ys i zero h = refl
-same-entries xs ys i (suc k) h = ap₂ _∷_ (h i) (same-entries xs ys (i + 1) k h)
-
 -- the fields side by side are the two words
 words : (l g : ℕ) (ms : List ℕ) → pack zoneWidths (l ∷ g ∷ (entries 0 ms 1 7 ++ (0 ∷ []))) ≡ highWord l g ms * 2 ^ 64 + lowWord ms
 unfolding pack bits entries
@@ -65,24 +61,24 @@ row-numbers w o beyond =
     record { least-to = omega arith; greatest-to = k .greatest-to; a2 = a 1; a3 = a 2; a4 = a 3; a5 = a 4; a6 = a 5; a7 = a 6; a8 = a 7 }
 
 pub current-row : (w : Walk) → Opens w (w .n) → drop (w .n) (w .multipliers) ≡ drop (w .n) (replicate 8 0)
-    → recut zoneWidths (byteWidths 16) (zoneFields (current w)) ≡ rowBytes (highWord (getD (w .least) (w .n - 1) 0) (getD (w .greatest) (w .n - 1) 0) (w .multipliers)) (lowWord (w .multipliers))
+    → recut zoneWidths (byteWidths rowSize) (zoneFields (current w)) ≡ rowBytes (highWord (getD (w .least) (w .n - 1) 0) (getD (w .greatest) (w .n - 1) 0) (w .multipliers)) (lowWord (w .multipliers))
 current-row w o beyond =
     let l = getD (w .least) (w .n - 1) 0 in
     let g = getD (w .greatest) (w .n - 1) 0 in
     let r = row-numbers w o beyond in
-    let same : zoneFields (current w) ≡ l ∷ g ∷ (entries 0 (w .multipliers) 1 7 ++ (0 ∷ [])) = ap (λ (rest : List ℕ). l ∷ g ∷ (rest ++ (0 ∷ []))) (same-entries (take (w .n) (w .multipliers)) (w .multipliers) 1 7 (taken-same (w .n) (w .multipliers) beyond)) in
+    let same : zoneFields (current w) ≡ l ∷ g ∷ (entries 0 (w .multipliers) 1 7 ++ (0 ∷ [])) = ap (λ (rest : List ℕ). l ∷ g ∷ (rest ++ (0 ∷ []))) (entries-same 0 (take (w .n) (w .multipliers)) (w .multipliers) 1 7 (taken-same (w .n) (w .multipliers) beyond)) in
     row-of-words zoneWidths (zoneFields (current w)) (highWord l g (w .multipliers)) (lowWord (w .multipliers)) (ap (pack zoneWidths) same ∙ words l g (w .multipliers)) (omega arith) (omega arith)
 
-pub length-rows : (zs : List Zone) → length (rowsOf zs) ≡ 16 * length zs
+pub length-rows : (zs : List Zone) → length (rowsOf zs) ≡ rowSize * length zs
 unfolding rowsOf
 length-rows [] = refl
 length-rows (z ∷ zs) =
-    length-append (recut zoneWidths (byteWidths 16) (zoneFields z)) (rowsOf zs) ∙ omega (arith, length-recut zoneWidths (byteWidths 16) (zoneFields z), length-rows zs)
+    length-append (recut zoneWidths (byteWidths rowSize) (zoneFields z)) (rowsOf zs) ∙ omega (arith, length-recut zoneWidths (byteWidths rowSize) (zoneFields z), length-rows zs)
 
-rows-snoc : (zs : List Zone) (z : Zone) → rowsOf (zs ++ (z ∷ [])) ≡ rowsOf zs ++ recut zoneWidths (byteWidths 16) (zoneFields z)
+rows-snoc : (zs : List Zone) (z : Zone) → rowsOf (zs ++ (z ∷ [])) ≡ rowsOf zs ++ recut zoneWidths (byteWidths rowSize) (zoneFields z)
 unfolding rowsOf
 rows-snoc [] z = append-nil _
-rows-snoc (y ∷ zs) z = ap (λ (l : List ℕ). recut zoneWidths (byteWidths 16) (zoneFields y) ++ l) (rows-snoc zs z) ∙ sym (append-assoc (recut zoneWidths (byteWidths 16) (zoneFields y)) (rowsOf zs) (recut zoneWidths (byteWidths 16) (zoneFields z)))
+rows-snoc (y ∷ zs) z = ap (λ (l : List ℕ). recut zoneWidths (byteWidths rowSize) (zoneFields y) ++ l) (rows-snoc zs z) ∙ sym (append-assoc (recut zoneWidths (byteWidths rowSize) (zoneFields y)) (rowsOf zs) (recut zoneWidths (byteWidths rowSize) (zoneFields z)))
 
 -- what stands at place k of a list, and after it
 pub record Here (xs : List Zone) (k : ℕ) (y : Zone) (ys : List Zone) : Type 0 where
@@ -109,7 +105,7 @@ pub record Writing (all : List Zone) (old out : List ℕ) (w : Walk) (row : ℕ)
   pub opens : found ≡ true → Opens w (w .n)
   pub beyond : drop (w .n) (w .multipliers) ≡ drop (w .n) (replicate 8 0)
   pub same : length out ≡ length old
-  pub bytes : length all ≤ length old / 16 → out ≡ rowsOf (take row all) ++ drop (16 * row) old
+  pub bytes : length all ≤ length old / rowSize → out ≡ rowsOf (take row all) ++ drop (rowSize * row) old
 
 pub none-written : {all : List Zone} {old : List ℕ} {w : Walk} {found : Bool} → WentOn all (replicate 8 0) w found → Writing all old old w 0 found
 unfolding rowsOf
@@ -121,7 +117,7 @@ module _ (all : List Zone) (old out : List ℕ) (w : Walk) (row : ℕ) (found : 
       let none : drop row all ≡ [] = sym (i .rest) ∙ coming-false w found e in
       let done : row ≡ length all = omega (arith, i .upto, length-drop row all, ap length none) in
       let whole : take row all ≡ all = sym (append-nil (take row all)) ∙ ap (λ (l : List Zone). take row all ++ l) (sym none) ∙ take-append-drop row all in
-      record { count = done; bytes = λ room. i .bytes room ∙ ap₂ (λ (zs : List Zone) (k : ℕ). rowsOf zs ++ drop (16 * k) old) whole done }
+      record { count = done; bytes = λ room. i .bytes room ∙ ap₂ (λ (zs : List Zone) (k : ℕ). rowsOf zs ++ drop (rowSize * k) old) whole done }
 
   module _ (here : found ≡ true) where
     at-row : Here all row (current w) (after w (w .n))
@@ -134,19 +130,19 @@ module _ (all : List Zone) (old out : List ℕ) (w : Walk) (row : ℕ) (found : 
     numbers = row-numbers w (i .opens here) (i .beyond)
 
     bytes-more : {new : List ℕ} (high low : ℕ) → high ≡ highWord (getD (w .least) (w .n - 1) 0) (getD (w .greatest) (w .n - 1) 0) (w .multipliers) → low ≡ lowWord (w .multipliers)
-        → new ≡ withRow out row (rowBytes high low) → length all ≤ length old / 16 → new ≡ rowsOf (take (row + 1) all) ++ drop (16 * (row + 1)) old
+        → new ≡ withRow out row (rowBytes high low) → length all ≤ length old / rowSize → new ≡ rowsOf (take (row + 1) all) ++ drop (rowSize * (row + 1)) old
     bytes-more high low eh el e room =
         let P = rowsOf (take row all) in
-        let R = recut zoneWidths (byteWidths 16) (zoneFields (current w)) in
-        let D = drop (16 * row) old in
-        let front : length P ≡ 16 * row = length-rows (take row all) ∙ ap (λ (k : ℕ). 16 * k) (length-take-le row all (i .upto)) in
-        let before-it : take (16 * row) out ≡ P = ap (take (16 * row)) (i .bytes room) ∙ take-at P D (16 * row) front in
-        let place : 16 * row + 16 ≡ length P + 16 = omega arith in
-        let next : 16 * row + 16 ≡ 16 * (row + 1) = omega arith in
-        let after-it : drop (16 * row + 16) out ≡ drop (16 * (row + 1)) old = ap (drop (16 * row + 16)) (i .bytes room) ∙ ap (λ (k : ℕ). drop k (P ++ D)) place ∙ drop-append-add P D 16 ∙ drop-drop 16 (16 * row) old ∙ ap (λ (k : ℕ). drop k old) next in
+        let R = recut zoneWidths (byteWidths rowSize) (zoneFields (current w)) in
+        let D = drop (rowSize * row) old in
+        let front : length P ≡ rowSize * row = length-rows (take row all) ∙ ap (λ (k : ℕ). rowSize * k) (length-take-le row all (i .upto)) in
+        let before-it : take (rowSize * row) out ≡ P = ap (take (rowSize * row)) (i .bytes room) ∙ take-at P D (rowSize * row) front in
+        let place : rowSize * row + rowSize ≡ length P + rowSize = omega arith in
+        let next : rowSize * row + rowSize ≡ rowSize * (row + 1) = omega arith in
+        let after-it : drop (rowSize * row + rowSize) out ≡ drop (rowSize * (row + 1)) old = ap (drop (rowSize * row + rowSize)) (i .bytes room) ∙ ap (λ (k : ℕ). drop k (P ++ D)) place ∙ drop-append-add P D rowSize ∙ drop-drop rowSize (rowSize * row) old ∙ ap (λ (k : ℕ). drop k old) next in
         let is : rowBytes high low ≡ R = ap₂ rowBytes eh el ∙ sym (current-row w (i .opens here) (i .beyond)) in
-        let inside : row < length out / 16 = subst (λ (k : ℕ). row < k / 16) (sym (i .same)) (omega (arith, at-row .inside)) in
-        e ∙ row-in out (rowBytes high low) row inside ∙ ap₂ (λ (a b : List ℕ). a ++ (rowBytes high low ++ b)) before-it after-it ∙ ap (λ (r : List ℕ). P ++ (r ++ drop (16 * (row + 1)) old)) is ∙ sym (append-assoc P R (drop (16 * (row + 1)) old)) ∙ ap (λ (l : List ℕ). l ++ drop (16 * (row + 1)) old) (sym (rows-snoc (take row all) (current w)) ∙ ap rowsOf (sym (at-row .taken)))
+        let inside : row < length out / rowSize = subst (λ (k : ℕ). row < k / rowSize) (sym (i .same)) (omega (arith, at-row .inside)) in
+        e ∙ row-in out (rowBytes high low) row inside ∙ ap₂ (λ (a b : List ℕ). a ++ (rowBytes high low ++ b)) before-it after-it ∙ ap (λ (r : List ℕ). P ++ (r ++ drop (rowSize * (row + 1)) old)) is ∙ sym (append-assoc P R (drop (rowSize * (row + 1)) old)) ∙ ap (λ (l : List ℕ). l ++ drop (rowSize * (row + 1)) old) (sym (rows-snoc (take row all) (current w)) ∙ ap rowsOf (sym (at-row .taken)))
 
     pub one-written : {w′ : Walk} {found′ : Bool} {new : List ℕ} (high low : ℕ)
         → high ≡ highWord (getD (w .least) (w .n - 1) 0) (getD (w .greatest) (w .n - 1) 0) (w .multipliers) → low ≡ lowWord (w .multipliers)

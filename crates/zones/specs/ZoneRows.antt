@@ -4,6 +4,7 @@ use mathlib.Core.Path.{_≡_}
 use mathlib.Core.List.{List, _++_}
 use Prim.Native.Nat.{ℕ, _+_, _*_, _/_, _%_, _^_, _≤_}
 use lib.ListN.{length, getD, drop}
+use Rattle.model.specs.Model.{rowSize}
 use Rattle.zone_walk.specs.Zone.{Zone}
 use Rattle.zones.specs.Zones.{rowsOf}
 
@@ -29,4 +30,4 @@ lowWord ms = getD ms 4 0 % 2 ^ 8 * 2 ^ 56 + (getD ms 5 0 * 2 ^ 44 + (getD ms 6 0
 -- A walk through all zones: their number, and where the buffer has room for all of them their rows at its front.
 pub record Wrote (all : List Zone) (old new : List ℕ) (r : ℕ) : Type 0 where
   pub count : r ≡ length all
-  pub bytes : length all ≤ length old / 16 → new ≡ rowsOf all ++ drop (16 * length all) old
+  pub bytes : length all ≤ length old / rowSize → new ≡ rowsOf all ++ drop (rowSize * length all) old

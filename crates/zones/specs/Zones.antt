@@ -10,7 +10,7 @@ use Rattle.model.specs.declared.Job.{Job}
 use Rattle.model.specs.declared.Profile.{Profile}
 use Rattle.model.specs.declared.Counted.{Counted}
 use Rattle.model.specs.declared.Verdict.the-variants.{Sound}
-use Rattle.model.specs.Model.{entries, jobsOf, Permitted, verdictOf, PutsRows}
+use Rattle.model.specs.Model.{entries, jobsOf, Permitted, verdictOf, rowSize, PutsRows}
 use Rattle.codec.specs.Layout.{byteWidths}
 use Rattle.codec.specs.Packing.{recut}
 use Rattle.zone_walk.specs.Zone.{Zone}
@@ -63,7 +63,7 @@ zoneFields z = z .least .0 ∷ z .greatest .0 ∷ (entries 0 (z .multipliers) 1 
 -- Zone rows one after the other, sixteen bytes each (Packing).
 unfoldable pub rowsOf : List Zone → List ℕ
 rowsOf [] = []
-rowsOf (z ∷ zs) = recut zoneWidths (byteWidths 16) (zoneFields z) ++ rowsOf zs
+rowsOf (z ∷ zs) = recut zoneWidths (byteWidths rowSize) (zoneFields z) ++ rowsOf zs
 
 -- What `list_zones` may answer, and leave of a lent buffer that held `old`; for a refused profile nothing is said of `zones`.
 -- There are no zones, and so 9 is answered, exactly where no list is permitted (Refusal numbers, 9).

@@ -4,6 +4,7 @@
 // private functions alone. Nothing is assumed, and no public function has a `requires`.
 use model::Counted;
 use model::Profile;
+use model::ROW_SIZE;
 use model::Seconds;
 use model::Verdict;
 ghost use mathlib.Core.Path.{_≡_};
@@ -36,7 +37,7 @@ pub fn list_zones(p: Profile, out: &mut [u8]) -> Counted
             count: 0,
         };
     }
-    let room = out.len() / 16;
+    let room = out.len() / ROW_SIZE;
     if room < count {
         return Counted {
             verdict: Verdict::Room(count as u64),

@@ -2,6 +2,7 @@
 -- Assumes nothing.
 use mathlib.Core.Path.{_≡_, refl}
 use native.Mathlib.Omega.{arith}
+use borrow.Author.Needs.{needs}
 use lib.ListN.{length}
 use Rattle.model.specs.Model.{jobsOf}
 use Rattle.table.proofs.Counting.{Counting, none-counted, count-small, all-counted, last-counted, batch-counted, less-left}
@@ -32,19 +33,22 @@ add-count c = omega (arith, count-small _ _ _ (c .before .before .before .before
 last-need-requires : tie.Need-last-need-requires Inv-loop μ-loop
 last-need-requires c κs = (omega (arith, c .before .if1 .left), c .before .before .answers-below .ensures .few)
 
+cast-limit : tie.Need-cast-limit Inv-loop μ-loop
+cast-limit c = search needs
+
 loop-less : tie.Need-loop-less Inv-loop μ-loop
 loop-less c =
-    let e = c .before .before in
+    let e = c .before .before .before in
     let k = e .before in
     let l = k .before .before in
-    less-left (l .before .before .pre) (l .before .loop .inv .1) (l .loop-test .taken) (k .answers-below .ensures) (omega (arith, e .if1 .left)) (c .last-need .ensures)
+    less-left (l .before .before .pre) (l .before .loop .inv .1) (l .loop-test .taken) (k .answers-below .ensures) (omega (arith, e .if1 .left)) (c .before .last-need .ensures)
 
 loop-again : tie.Need-loop-again Inv-loop μ-loop
 loop-again c =
-    let e = c .before .before in
+    let e = c .before .before .before in
     let k = e .before in
     let l = k .before .before in
-    (k .answers-below .ensures .size, batch-counted (l .before .before .pre) (l .before .loop .inv .1) (l .loop-test .taken) (k .answers-below .ensures) (omega (arith, e .if1 .left)) (c .last-need .ensures))
+    (k .answers-below .ensures .size, batch-counted (l .before .before .pre) (l .before .loop .inv .1) (l .loop-test .taken) (k .answers-below .ensures) (omega (arith, e .if1 .left)) (c .before .last-need .ensures))
 
 returns-2 : tie.Need-returns-2 Inv-loop μ-loop
 returns-2 c = all-counted _ _ _ (c .before .loop .inv .1) (omega arith)
@@ -60,6 +64,7 @@ count-rows-spec =
     returns
     add-count
     last-need-requires
+    cast-limit
     loop-less
     loop-again
     returns-2)

@@ -3,6 +3,7 @@
 use mathlib.Core.Path.{_≡_, refl}
 use Prim.Native.Nat.{_≤_, _<_}
 use native.Mathlib.Omega.{arith}
+use borrow.Author.Needs.{needs}
 use lib.ListN.{length}
 use Rattle.model.specs.Model.{jobsOf}
 use Rattle.table.proofs.TableRows.{Writing, none-written, all-written, limit-left, some-found, found-left, batch-written}
@@ -47,18 +48,21 @@ last-need-requires c κs =
     let k = c .before .before .before .before .before .before in
     (some k, k .answers-below .ensures .few)
 
+cast-limit : tie.Need-cast-limit Inv-loop μ-loop
+cast-limit c = search needs
+
 loop-less : tie.Need-loop-less Inv-loop μ-loop
 loop-less c =
-    let k = c .before .before .before .before .before .before .before in
+    let k = c .before .before .before .before .before .before .before .before in
     omega (arith, some k, within k)
 
 loop-again : tie.Need-loop-again Inv-loop μ-loop
 loop-again c =
-    let w = c .before .before .before .before in
+    let w = c .before .before .before .before .before in
     let k = w .before .before .before in
     let l = k .before .before in
     let start = l .before .before .before in
-    (k .answers-below .ensures .size, batch-written (start .pre .0) (start .pre .2) (l .before .loop .inv .1) (omega (arith, l .loop-test .taken)) (k .answers-below .ensures) (w .write-batch .ensures) (c .last-need .ensures))
+    (k .answers-below .ensures .size, batch-written (start .pre .0) (start .pre .2) (l .before .loop .inv .1) (omega (arith, l .loop-test .taken)) (k .answers-below .ensures) (w .write-batch .ensures) (c .before .last-need .ensures))
 
 same-length : tie.Need-same-length Inv-loop μ-loop
 same-length c = c .before .loop .inv .1 .same
@@ -77,6 +81,7 @@ write-rows-spec =
     write-batch-requires
     sub-left
     last-need-requires
+    cast-limit
     loop-less
     loop-again
     same-length

@@ -16,28 +16,32 @@ returns : tie.Need-returns
 returns c =
     covers-none (c .before .before .pre .1 .1) (c .before .losing-less .ensures) (c .if1 .taken)
 
-sub-least : tie.Need-sub-least
-sub-least c = search needs
+sub-start-of : tie.Need-sub-start-of
+sub-start-of c = search needs
 
-mul-least : tie.Need-mul-least
-mul-least c = search needs
+mul-start-of : tie.Need-mul-start-of
+mul-start-of c = search needs
 
-mul-least-2 : tie.Need-mul-least-2
-mul-least-2 c = search needs
+mul-start-of-2 : tie.Need-mul-start-of-2
+mul-start-of-2 c = search needs
 
-element-copy-out-least : tie.Need-element-copy-out-least
-element-copy-out-least c = search needs
+element-copy-out-start-of : tie.Need-element-copy-out-start-of
+element-copy-out-start-of c = search needs
 
-cast-if2 : tie.Need-cast-if2
-cast-if2 c = search needs
+start-of-requires : tie.Need-start-of-requires
+start-of-requires c κs = search needs
 
 returns-2 : tie.Need-returns-2
 returns-2 c =
-    covers-less (c .before .before .before .before .before .pre .1 .1) (c .before .before .before .before .losing-less .ensures) (c .before .before .before .if1 .left) (omega (arith, c .if2 .taken))
+    let some = c .before .before .before .before .before in
+    let k = some .before in
+    covers-less (k .before .pre .1 .1) (k .losing-less .ensures) (some .if1 .left) (omega (arith, c .before .before .before .start-of .ensures, c .if2 .taken))
 
 returns-3 : tie.Need-returns-3
 returns-3 c =
-    covers-some (c .before .before .before .before .before .pre .1 .1) (c .before .before .before .before .losing-less .ensures) (c .before .before .before .if1 .left) (omega (arith, c .if2 .left))
+    let some = c .before .before .before .before .before in
+    let k = some .before in
+    covers-some (k .before .pre .1 .1) (k .losing-less .ensures) (some .if1 .left) (omega (arith, c .before .before .before .start-of .ensures, c .if2 .left))
 
 pub covers-spec : {M : Type 1} → statement M
 covers-spec =
@@ -46,10 +50,10 @@ covers-spec =
     add-losing-less
     losing-less-requires
     returns
-    sub-least
-    mul-least
-    mul-least-2
-    element-copy-out-least
-    cast-if2
+    sub-start-of
+    mul-start-of
+    mul-start-of-2
+    element-copy-out-start-of
+    start-of-requires
     returns-2
     returns-3)

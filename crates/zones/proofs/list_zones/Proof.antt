@@ -6,7 +6,7 @@ use Prim.Native.Nat.{ℕ, _*_, _/_, _^_, _≤_, _<_}
 use borrow.Author.Needs.{needs}
 use lib.ListN.{length, drop}
 use Rattle.model.specs.declared.Verdict.the-variants.{Sound}
-use Rattle.model.specs.Model.{verdictOf, rowsVerdict}
+use Rattle.model.specs.Model.{verdictOf, rowSize, rowsVerdict}
 use Rattle.model.proofs.Validity.{sound-valid}
 use Rattle.model.proofs.Verdicts.{refuses, refused-stays}
 use Rattle.model.proofs.RowsPut.{none-put, no-rows, no-room, all-put}
@@ -92,7 +92,7 @@ returns-4 c =
     let e = w .before .before .before .before in
     let k = e .before .before .before in
     let old = told k .before .before .before .before .args .out .now in
-    listed _ old (all-put _ _ _ old _ (sound (told k)) (counted k) (e .before .if1 .left) (e .if2 .left) _ (w .write-zones2 .ensures .bytes (subst (λ (m : ℕ). m ≤ length old / 16) (k .write-zones .ensures .count) (e .if2 .left)) ∙ ap (λ (zs : List Zone). rowsOf zs ++ drop (16 * length zs) old) (zones-are _ _ _ (k .before .before .before .before .intervals .ensures))))
+    listed _ old (all-put _ _ _ old _ (sound (told k)) (counted k) (e .before .if1 .left) (e .if2 .left) _ (w .write-zones2 .ensures .bytes (subst (λ (m : ℕ). m ≤ length old / rowSize) (k .write-zones .ensures .count) (e .if2 .left)) ∙ ap (λ (zs : List Zone). rowsOf zs ++ drop (rowSize * length zs) old) (zones-are _ _ _ (k .before .before .before .before .intervals .ensures))))
 
 pub list-zones-spec : {M : Type 1} → statement M
 list-zones-spec =
