@@ -6,37 +6,47 @@ use mathlib.Core.List.{List, _++_}
 use Prim.Native.Nat.{ℕ, _*_, _/_, _≤_, _<_}
 use lib.ListN.{length, drop}
 use lib.Dec.{eqb, ltb}
-use borrow.Author.Tests.{eqb-true, lt-ltb, le-ltb, eq-eqb, ne-eqb}
+use native.Mathlib.Decide.{decLt}
+use native.Mathlib.Omega.{arith}
+use borrow.Author.Tests.{eqb-true, eqb-false, lt-ltb, ne-eqb}
 use Rattle.model.specs.declared.Profile.{Profile}
 use Rattle.model.specs.declared.Counted.{Counted}
 use Rattle.model.specs.declared.Verdict.{Verdict}
-use Rattle.model.specs.declared.Verdict.the-variants.{Sound, NoPeriods, Room}
-use Rattle.model.specs.Model.{numberOf, refuseIf, orElse, ifSound, verdictOf, rowSize, rowsVerdict, PutsRows}
+use Rattle.model.specs.declared.Verdict.the-variants.{Sound, Room}
+use Rattle.model.specs.Model.{numberOf, refuseIf, orElse, ifSound, verdictOf, rowSize, countVerdict, rowsVerdict, PutsRows}
 use Rattle.model.proofs.Verdicts.{Refuses, sound-of-zero, sound-passes, beside-sound, beside-refusal}
 
 -- a refusal leaves the buffer as it was, and the count zero
 pub none-put : (p : Profile) (rows : ℕ) (bytes old : List ℕ) (v : Verdict) → Refuses v → v ≡ rowsVerdict p rows (length old) → PutsRows p rows bytes old (record { verdict = v; count = 0 }) old
 none-put p rows bytes old v h e = record { verdict = e; count = beside-refusal _ _ h e; bytes = beside-refusal _ _ h e }
 
--- past the profile's own verdict, with the rows counted
-module _ (p : Profile) (rows : ℕ) (bytes old : List ℕ) (count : ℕ) (sound : verdictOf p ≡ Sound) (is : count ≡ rows) where
-  passed : rowsVerdict p rows (length old) ≡ refuseIf (eqb count 0) NoPeriods (refuseIf (ltb (length old / rowSize) count) (Room count) Sound)
+no-room : (count size : ℕ) → size / rowSize < count → countVerdict count size ≡ Room count
+unfolding refuseIf
+no-room count size h =
+    let some : count ≡ 0 → ⊥ = λ z. omega arith in
+    simp (ne-eqb count 0 some, lt-ltb (size / rowSize) count h)
+
+-- a sound verdict on a count leaves room for it
+pub room-enough : (count size : ℕ) → countVerdict count size ≡ Sound → count ≤ size / rowSize
+room-enough count size e = go (decLt (size / rowSize) count)
+  where
+    go : Dec (size / rowSize < count) → count ≤ size / rowSize
+    go (yes h) = absurd (eqb-false 11 0 refl (ap numberOf (sym (no-room count size h) ∙ e)))
+    go (no h) = omega arith
+
+-- past the profile's own verdict, with the rows counted and their count judged
+module _ (p : Profile) (rows : ℕ) (bytes old : List ℕ) (count : ℕ) (sound : verdictOf p ≡ Sound) (is : count ≡ rows) {v : Verdict} (told : v ≡ countVerdict count (length old)) where
+  passed : v ≡ rowsVerdict p rows (length old)
   unfolding rowsVerdict
-  passed = sound-passes _ refl sound ∙ ap (λ (k : ℕ). refuseIf (eqb k 0) NoPeriods (refuseIf (ltb (length old / rowSize) k) (Room k) Sound)) (sym is)
+  passed = told ∙ ap (λ (k : ℕ). countVerdict k (length old)) is ∙ sym (sound-passes _ refl sound)
 
-  pub no-rows : count ≡ 0 → PutsRows p rows bytes old (record { verdict = NoPeriods; count = 0 }) old
-  unfolding refuseIf
-  no-rows e = none-put p rows bytes old NoPeriods tt (sym (passed ∙ simp (eq-eqb count 0 e)))
+  pub count-refused : Refuses v → PutsRows p rows bytes old (record { verdict = v; count = 0 }) old
+  count-refused h = none-put p rows bytes old v h passed
 
-  pub no-room : (count ≡ 0 → ⊥) → length old / rowSize < count → PutsRows p rows bytes old (record { verdict = Room count; count = 0 }) old
-  unfolding refuseIf
-  no-room some h = none-put p rows bytes old (Room count) tt (sym (passed ∙ simp (ne-eqb count 0 some, lt-ltb (length old / rowSize) count h)))
-
-  pub all-put : (count ≡ 0 → ⊥) → count ≤ length old / rowSize → (new : List ℕ) → new ≡ bytes ++ drop (rowSize * rows) old → PutsRows p rows bytes old (record { verdict = Sound; count = count }) new
-  unfolding refuseIf
-  all-put some h new e =
-      let v : Sound ≡ rowsVerdict p rows (length old) = sym (passed ∙ simp (ne-eqb count 0 some, le-ltb (length old / rowSize) count h)) in
-      record { verdict = v; count = is ∙ beside-sound _ _ v; bytes = e ∙ beside-sound _ _ v }
+  pub all-put : v ≡ Sound → (new : List ℕ) → new ≡ bytes ++ drop (rowSize * rows) old → PutsRows p rows bytes old (record { verdict = Sound; count = count }) new
+  all-put e new is-new =
+      let s : Sound ≡ rowsVerdict p rows (length old) = sym e ∙ passed in
+      record { verdict = s; count = is ∙ beside-sound _ _ s; bytes = is-new ∙ beside-sound _ _ s }
 
 -- answer and bytes, as the rows decide them
 abbrev answer : Profile → List ℕ → ℕ → Counted

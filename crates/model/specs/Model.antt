@@ -196,10 +196,13 @@ pub record ProfileFirst {A : Type 0} (p : Profile) (refused : Verdict → A) (Re
 abbrev pub rowSize : ℕ
 rowSize = 16
 
--- The verdict on putting `count` rows into `size` lent bytes: the profile's own, then 9 where there are none,
--- then 11 (Refusal numbers, order).
+-- The verdict on `count` rows for `size` lent bytes: 9 where there are none, then 11 (Refusal numbers, order).
+abbrev pub countVerdict : ℕ → ℕ → Verdict
+countVerdict count size = refuseIf (eqb count 0) NoPeriods (refuseIf (ltb (size / rowSize) count) (Room count) Sound)
+
+-- The verdict on putting them there: the profile's own, then that on their count (Refusal numbers, order).
 unfoldable pub rowsVerdict : Profile → ℕ → ℕ → Verdict
-rowsVerdict p count size = orElse (verdictOf p) (refuseIf (eqb count 0) NoPeriods (refuseIf (ltb (size / rowSize) count) (Room count) Sound))
+rowsVerdict p count size = orElse (verdictOf p) (countVerdict count size)
 
 -- What an operation that puts rows into a lent buffer may answer, and leave of one that held `old`: the count, and the rows'
 -- bytes, `front`, before the rest; beside a refusal 0, and every byte as it was (The table: room; Refusal numbers).

@@ -4,7 +4,7 @@
 // Nothing is assumed, and but for `allowed` no function here has a `requires`.
 ghost use mathlib.Core.Path.{_≡_};
 ghost use Prim.Native.Nat.{_≤_};
-ghost use Rattle.model.specs.Model.{numberOf, detailOf, judgeIntervalAndStiffness, judgeJob, verdictOf, allows};
+ghost use Rattle.model.specs.Model.{numberOf, detailOf, judgeIntervalAndStiffness, judgeJob, verdictOf, countVerdict, allows};
 
 // Whole seconds: a period, or an end of a job's interval.
 pub struct Seconds(pub u32);
@@ -165,6 +165,20 @@ pub fn judge_interval_and_stiffness(j: Job, k: u32) -> Verdict
     }
     if 32 < j.stiffness {
         return Verdict::Stiffness(k);
+    }
+    Verdict::Sound
+}
+
+// The verdict on `count` rows for `size` lent bytes, past the profile's own: 9 where there are none, then 11.
+pub fn judge_count(count: u64, size: usize) -> Verdict
+    ensures { λ r. ⌜ r ≡ countVerdict count size ⌝ }
+{
+    if count == 0 {
+        return Verdict::NoPeriods;
+    }
+    let room = (size / ROW_SIZE) as u64;
+    if room < count {
+        return Verdict::Room(count);
     }
     Verdict::Sound
 }

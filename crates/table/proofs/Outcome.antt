@@ -3,14 +3,15 @@
 use mathlib.Core.Path.{_≡_, _∙_, ap}
 use mathlib.Core.Logic.{_↔_}
 use mathlib.Core.List.{List, _++_}
-use Prim.Native.Nat.{ℕ, _*_, _/_, _≤_}
+use Prim.Native.Nat.{ℕ, _*_}
 use native.Mathlib.Omega.{arith}
 use lib.ListN.{length, drop}
 use Rattle.model.specs.declared.Seconds.{Seconds}
 use Rattle.model.specs.declared.Profile.{Profile}
 use Rattle.model.specs.declared.Counted.{Counted}
+use Rattle.model.specs.declared.Verdict.{Verdict}
 use Rattle.model.specs.declared.Verdict.the-variants.{Sound}
-use Rattle.model.specs.Model.{noJob, jobsOf, Permitted, verdictOf, PutsRows, rowSize}
+use Rattle.model.specs.Model.{noJob, jobsOf, Permitted, verdictOf, rowSize, countVerdict, PutsRows}
 use Rattle.model.proofs.Entries.{length-entries}
 use Rattle.model.proofs.Validity.{sound-valid}
 use Rattle.model.proofs.RowsPut.{all-put}
@@ -34,6 +35,6 @@ pub built : (p : Profile) (old : List ℕ) {r : Counted} {new : List ℕ} → Pu
 built p old put = record { rows = rowsOf p; are = are-rows p; none = none-of p; puts = put }
 
 -- the same, where what was written is told by the rows counted
-pub all-built : (p : Profile) (old : List ℕ) (count : ℕ) → verdictOf p ≡ Sound → count ≡ length (rowsOf p) → (count ≡ 0 → ⊥) → count ≤ length old / rowSize → (new : List ℕ) → new ≡ tableBytes (jobsOf p) (rowsOf p) ++ drop (rowSize * count) old
+pub all-built : (p : Profile) (old : List ℕ) (count : ℕ) → verdictOf p ≡ Sound → count ≡ length (rowsOf p) → {v : Verdict} → v ≡ countVerdict count (length old) → v ≡ Sound → (new : List ℕ) → new ≡ tableBytes (jobsOf p) (rowsOf p) ++ drop (rowSize * count) old
     → Built p old (record { verdict = Sound; count = count }) new
-all-built p old count sound is some h new e = built p old (all-put p _ _ old count sound is some h new (e ∙ ap (λ (k : ℕ). tableBytes (jobsOf p) (rowsOf p) ++ drop (rowSize * k) old) is))
+all-built p old count sound is told h new e = built p old (all-put p _ _ old count sound is told h new (e ∙ ap (λ (k : ℕ). tableBytes (jobsOf p) (rowsOf p) ++ drop (rowSize * k) old) is))

@@ -7,7 +7,6 @@
 // greatest budget, then the best below their need, and so on until nothing fits; each walk collects a batch of them.
 use model::Counted;
 use model::Profile;
-use model::ROW_SIZE;
 use model::Verdict;
 ghost use mathlib.Core.Path.{_≡_};
 ghost use mathlib.Core.List.{_++_};
@@ -33,19 +32,13 @@ pub fn build_table(p: Profile, out: &mut [u8]) -> Counted
         };
     };
     let count = count_rows(p);
-    if count == 0 {
+    let w = model::judge_count(count, out.len());
+    let Verdict::Sound = w else {
         return Counted {
-            verdict: Verdict::NoPeriods,
+            verdict: w,
             count: 0,
         };
-    }
-    let room = (out.len() / ROW_SIZE) as u64;
-    if room < count {
-        return Counted {
-            verdict: Verdict::Room(count),
-            count: 0,
-        };
-    }
+    };
     write_rows(p, count as usize, out);
     Counted {
         verdict: Verdict::Sound,

@@ -4,7 +4,6 @@
 // private functions alone. Nothing is assumed, and no public function has a `requires`.
 use model::Counted;
 use model::Profile;
-use model::ROW_SIZE;
 use model::Seconds;
 use model::Verdict;
 ghost use mathlib.Core.Path.{_≡_};
@@ -30,24 +29,18 @@ pub fn list_zones(p: Profile, out: &mut [u8]) -> Counted
     let mut longest = [0u32; 8];
     zone_walk::intervals(p, &mut shortest, &mut longest);
     let mut nowhere = [0u8; 1];
-    let count = write_zones(n, &shortest, &longest, &mut nowhere);
-    if count == 0 {
+    let count = write_zones(n, &shortest, &longest, &mut nowhere) as u64;
+    let w = model::judge_count(count, out.len());
+    let Verdict::Sound = w else {
         return Counted {
-            verdict: Verdict::NoPeriods,
+            verdict: w,
             count: 0,
         };
-    }
-    let room = out.len() / ROW_SIZE;
-    if room < count {
-        return Counted {
-            verdict: Verdict::Room(count as u64),
-            count: 0,
-        };
-    }
+    };
     write_zones(n, &shortest, &longest, out);
     Counted {
         verdict: Verdict::Sound,
-        count: count as u64,
+        count,
     }
 }
 

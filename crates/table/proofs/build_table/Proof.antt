@@ -1,13 +1,12 @@
--- `table::build_table` meets its contract: the profile's verdict, then the count of its rows, then the room; only what passes all is written.
+-- `table::build_table` meets its contract: the profile's verdict, then that on the count of its rows; only what passes both is written.
 -- Assumes nothing.
 use mathlib.Core.Path.{_≡_, sym, _∙_}
-use native.Mathlib.Omega.{arith}
 use borrow.Author.Needs.{needs}
 use Rattle.model.specs.declared.Verdict.the-variants.{Sound}
 use Rattle.model.specs.Model.{verdictOf, rowsVerdict}
 use Rattle.model.proofs.Validity.{sound-valid}
 use Rattle.model.proofs.Verdicts.{refuses, refused-stays}
-use Rattle.model.proofs.RowsPut.{none-put, no-rows, no-room}
+use Rattle.model.proofs.RowsPut.{none-put, room-enough, count-refused}
 use Rattle.table.proofs.Outcome.{built, all-built}
 use Rattle.table.proofs.build_table.Statement.{statement}
 use Rattle.table.proofs.build_table.Tie as tie
@@ -30,30 +29,35 @@ returns c =
 count-rows-requires : tie.Need-count-rows-requires
 count-rows-requires c κs = sound-valid _ (sound c)
 
+judge-count-requires : tie.Need-judge-count-requires
+judge-count-requires c κs = search needs
+
+enum-told-2 : tie.Need-enum-told-2
+enum-told-2 c = search needs
+
 returns-2 : tie.Need-returns-2
 returns-2 c =
-    let k = c .before in
-    built _ _ (no-rows _ _ _ _ _ (sound (k .before)) (k .count-rows .ensures) (c .if1 .taken))
-
-returns-3 : tie.Need-returns-3
-returns-3 c =
-    let k = c .before .before in
-    built _ _ (no-room _ _ _ _ _ (sound (k .before)) (k .count-rows .ensures) (c .before .if1 .left) (omega arith))
+    let j = c .before in
+    let k = j .before in
+    built _ _ (count-refused _ _ _ _ _ (sound (k .before)) (k .count-rows .ensures) (j .judge-count .ensures) (refuses (j .judge-count .result) (c .match2 .keys2)))
 
 write-rows-requires : tie.Need-write-rows-requires
 write-rows-requires c κs =
-    let k = c .before .before .before in
-    (sound-valid _ (sound (k .before)), k .count-rows .ensures, omega arith)
+    let e = c .before in
+    let j = e .before .before in
+    let k = j .before in
+    (sound-valid _ (sound (k .before)), k .count-rows .ensures, room-enough _ _ (sym (j .judge-count .ensures) ∙ e .enum-told2 .given .1))
 
 same-length : tie.Need-same-length
 same-length c = search needs
 
-returns-4 : tie.Need-returns-4
-returns-4 c =
+returns-3 : tie.Need-returns-3
+returns-3 c =
     let w = c .before .before in
     let e = w .before .before in
-    let k = e .before .before in
-    all-built _ _ _ (sound (k .before)) (k .count-rows .ensures) (e .before .if1 .left) (let room = e .if2 .left in omega arith) _ (w .write-rows .ensures)
+    let j = e .before .before in
+    let k = j .before in
+    all-built _ _ _ (sound (k .before)) (k .count-rows .ensures) (j .judge-count .ensures) (e .enum-told2 .given .1) _ (w .write-rows .ensures)
 
 pub build-table-spec : {M : Type 1} → statement M
 build-table-spec =
@@ -63,8 +67,9 @@ build-table-spec =
     enum-told
     returns
     count-rows-requires
+    judge-count-requires
+    enum-told-2
     returns-2
-    returns-3
     write-rows-requires
     same-length
-    returns-4)
+    returns-3)

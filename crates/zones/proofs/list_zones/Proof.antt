@@ -1,4 +1,4 @@
--- `zones::list_zones` meets its contract: the profile's verdict, then the count of its zones, then the room; only what passes all is written.
+-- `zones::list_zones` meets its contract: the profile's verdict, then that on the count of its zones; only what passes both is written.
 -- Assumes nothing.
 use mathlib.Core.Path.{_≡_, refl, sym, _∙_, ap, subst}
 use mathlib.Core.List.{List, _++_}
@@ -9,7 +9,7 @@ use Rattle.model.specs.declared.Verdict.the-variants.{Sound}
 use Rattle.model.specs.Model.{verdictOf, rowSize, rowsVerdict}
 use Rattle.model.proofs.Validity.{sound-valid}
 use Rattle.model.proofs.Verdicts.{refuses, refused-stays}
-use Rattle.model.proofs.RowsPut.{none-put, no-rows, no-room, all-put}
+use Rattle.model.proofs.RowsPut.{none-put, room-enough, count-refused, all-put}
 use Rattle.zone_walk.specs.Listing.{Spans, spansFrom, zonesIn}
 use Rattle.zone_walk.specs.Zone.{Zone}
 use Rattle.zones.specs.Zones.{rowsOf}
@@ -67,32 +67,38 @@ write-zones-requires c κs =
     let i = c .before .before .before in
     walkable i
 
+judge-count-requires : tie.Need-judge-count-requires
+judge-count-requires c κs = search needs
+
+enum-told-2 : tie.Need-enum-told-2
+enum-told-2 c = search needs
+
 returns-2 : tie.Need-returns-2
 returns-2 c =
-    let k = c .before .before in
-    listed _ _ (no-rows _ _ _ _ _ (sound (told k)) (counted k) (c .if1 .taken))
-
-returns-3 : tie.Need-returns-3
-returns-3 c =
-    let k = c .before .before .before in
-    listed _ _ (no-room _ _ _ _ _ (sound (told k)) (counted k) (c .before .if1 .left) (c .if2 .taken))
+    let j = c .before in
+    let k = j .before .before in
+    listed _ _ (count-refused _ _ _ _ _ (sound (told k)) (counted k) (j .judge-count .ensures) (refuses (j .judge-count .result) (c .match2 .keys2)))
 
 write-zones-requires-2 : tie.Need-write-zones-requires-2
 unfolding Walkable
 write-zones-requires-2 c κs =
-    let k = c .before .before .before .before .before .before in
+    let k = c .before .before .before .before .before .before .before in
     walkable (k .before .before .before .before)
 
 same-length : tie.Need-same-length
 same-length c = search needs
 
-returns-4 : tie.Need-returns-4
-returns-4 c =
+returns-3 : tie.Need-returns-3
+returns-3 c =
     let w = c .before .before in
     let e = w .before .before .before .before in
-    let k = e .before .before .before in
+    let j = e .before .before in
+    let k = j .before .before in
     let old = told k .before .before .before .before .args .out .now in
-    listed _ old (all-put _ _ _ old _ (sound (told k)) (counted k) (e .before .if1 .left) (e .if2 .left) _ (w .write-zones2 .ensures .bytes (subst (λ (m : ℕ). m ≤ length old / rowSize) (k .write-zones .ensures .count) (e .if2 .left)) ∙ ap (λ (zs : List Zone). rowsOf zs ++ drop (rowSize * length zs) old) (zones-are _ _ _ (k .before .before .before .before .intervals .ensures))))
+    let room = room-enough _ _ (sym (j .judge-count .ensures) ∙ e .enum-told2 .given .1) in
+    let bytes = w .write-zones2 .ensures .bytes (subst (λ (m : ℕ). m ≤ length old / rowSize) (k .write-zones .ensures .count) room) in
+    listed _ old (all-put _ _ _ old _ (sound (told k)) (counted k) (j .judge-count .ensures) (e .enum-told2 .given .1) _
+    (bytes ∙ ap (λ (zs : List Zone). rowsOf zs ++ drop (rowSize * length zs) old) (zones-are _ _ _ (k .before .before .before .before .intervals .ensures))))
 
 pub list-zones-spec : {M : Type 1} → statement M
 list-zones-spec =
@@ -105,8 +111,9 @@ list-zones-spec =
     intervals-requires
     slice-aggregate-write-zones
     write-zones-requires
+    judge-count-requires
+    enum-told-2
     returns-2
-    returns-3
     write-zones-requires-2
     same-length
-    returns-4)
+    returns-3)
