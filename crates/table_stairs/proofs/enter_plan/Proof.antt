@@ -31,7 +31,9 @@ covers-requires c κs = search needs
 
 returns-3 : tie.Need-returns-3
 returns-3 c =
-    enters-covered (c .before .before .before .before .before .before .before .before .before .before .pre .1 .1) (ap (λ (q : PagesPerHour). q .0) (c .before .before .before .before .before .before .before .before .before .need-of .ensures)) (c .before .covers .ensures) (c .if3 .taken)
+    let asked = c .before in
+    let needed = asked .before .before .before .before .before .before .before .before in
+    enters-covered (needed .before .pre .1 .1) (ap (λ (q : PagesPerHour). q .0) (needed .need-of .ensures)) (asked .covers .ensures) (c .if3 .taken)
 
 losing-less-requires : tie.Need-losing-less-requires
 losing-less-requires c κs = search needs
@@ -41,14 +43,27 @@ needing-less-requires c κs = search needs
 
 put-plan-requires : tie.Need-put-plan-requires
 put-plan-requires c κs =
-    let s = c .before .before .before .before .before .before .before .before .before .before .before .before .before .before .before .before .pre .1 .1 in
-    (s, (placed (s .rises) (c .before .before .before .before .before .before .before .covers .ensures) (c .before .before .before .before .before .before .if3 .left) (c .before .before .before .before .losing-less .ensures) (c .before .before .needing-less .ensures), omega (arith, c .before .before .before .before .before .before .before .before .before .before .if2 .left)))
+    let behind = c .before .before in
+    let ahead = behind .before .before in
+    let uncovered = ahead .before .before in
+    let asked = uncovered .before in
+    let below = asked .before .before .before in
+    let s = below .before .before .before .before .before .before .pre .1 .1 in
+    (s, (placed (s .rises) (asked .covers .ensures) (uncovered .if3 .left) (ahead .losing-less .ensures) (behind .needing-less .ensures), omega (arith, below .if2 .left)))
 
 returns-4 : tie.Need-returns-4
 returns-4 c =
-    let s = c .before .before .before .before .before .before .before .before .before .before .before .before .before .before .before .before .before .pre .1 .1 in
-    let e = ap (λ (q : PagesPerHour). q .0) (c .before .before .before .before .before .before .before .before .before .before .before .before .before .before .before .before .need-of .ensures) in
-    enters-new s e (omega (arith, c .before .before .before .before .before .before .before .before .before .before .before .before .before .if1 .left)) (omega (arith, c .before .before .before .before .before .before .before .before .before .before .before .if2 .left)) (c .before .before .before .before .before .before .before .before .covers .ensures) (c .before .before .before .before .before .before .before .if3 .left) (placed (s .rises) (c .before .before .before .before .before .before .before .before .covers .ensures) (c .before .before .before .before .before .before .before .if3 .left) (c .before .before .before .before .before .losing-less .ensures) (c .before .before .before .needing-less .ensures)) (c .put-plan .ensures)
+    let behind = c .before .before .before in
+    let ahead = behind .before .before in
+    let uncovered = ahead .before .before in
+    let asked = uncovered .before in
+    let below = asked .before .before .before in
+    let within = below .before .before in
+    let needed = within .before .before .before in
+    let s = needed .before .pre .1 .1 in
+    let e = ap (λ (q : PagesPerHour). q .0) (needed .need-of .ensures) in
+    let place = placed (s .rises) (asked .covers .ensures) (uncovered .if3 .left) (ahead .losing-less .ensures) (behind .needing-less .ensures) in
+    enters-new s e (omega (arith, within .if1 .left)) (omega (arith, below .if2 .left)) (asked .covers .ensures) (uncovered .if3 .left) place (c .put-plan .ensures)
 
 pub enter-plan-spec : {M : Type 1} → statement M
 enter-plan-spec =
