@@ -88,11 +88,11 @@ fn high_word(least: Seconds, greatest: Seconds, multipliers: &[u32; 8]) -> u64
     requires { ⌜ RowNumbers (least .0) (greatest .0) (now multipliers) ⌝ }
     ensures { λ r. ⌜ r ≡ highWord (least .0) (greatest .0) (now (multipliers .entry)) ⌝ }
 {
-    wide(least.0) * 0x10_0000_0000_0000
-        + (wide(greatest.0) * 0x100_0000_0000
-            + (wide(multipliers[1]) * 0x1000_0000
-                + (wide(multipliers[2]) * 0x1_0000
-                    + (wide(multipliers[3]) * 0x10 + wide(multipliers[4]) / 0x100))))
+    (least.0 as u64) * 0x10_0000_0000_0000
+        + ((greatest.0 as u64) * 0x100_0000_0000
+            + ((multipliers[1] as u64) * 0x1000_0000
+                + ((multipliers[2] as u64) * 0x1_0000
+                    + ((multipliers[3] as u64) * 0x10 + (multipliers[4] as u64) / 0x100))))
 }
 
 // The last eight bytes of a zone's row: the eight low bits of a5, a6 to a8, and zeros.
@@ -100,13 +100,7 @@ fn low_word(multipliers: &[u32; 8]) -> u64
     requires { ⌜ RowNumbers 0 0 (now multipliers) ⌝ }
     ensures { λ r. ⌜ r ≡ lowWord (now (multipliers .entry)) ⌝ }
 {
-    wide(multipliers[4]) % 0x100 * 0x100_0000_0000_0000
-        + (wide(multipliers[5]) * 0x1000_0000_0000
-            + (wide(multipliers[6]) * 0x1_0000_0000 + wide(multipliers[7]) * 0x10_0000))
-}
-
-fn wide(x: u32) -> u64
-    ensures { λ r. ⌜ r ≡ x ⌝ }
-{
-    x as u64
+    (multipliers[4] as u64) % 0x100 * 0x100_0000_0000_0000
+        + ((multipliers[5] as u64) * 0x1000_0000_0000
+            + ((multipliers[6] as u64) * 0x1_0000_0000 + (multipliers[7] as u64) * 0x10_0000))
 }
