@@ -19,12 +19,12 @@ use Rattle.model.proofs.Verdicts.{sound-of-zero}
 use Rattle.codec.specs.Layout.{profileLength, profileBytes}
 use Rattle.profile_read.specs.declared.Reading.{Reading}
 use Rattle.profile_read.specs.Reading.{verdictOfBytes, valuesOf, noProfile}
-use Rattle.profile_read.proofs.OneOutcome.{read-profile-one-outcome}
+use Rattle.profile_read.proofs.OneOutcome.{reads-one}
 use Rattle.profile_write.specs.Writing.{writeVerdict, Writes}
-use Rattle.profile_write.proofs.OneOutcome.{write-profile-one-outcome}
+use Rattle.profile_write.proofs.OneOutcome.{writes-one}
 use Rattle.model.proofs.ProfileFirst.{computed-first}
 use Rattle.score.proofs.Computed.{scoreFor, score-meets}
-use Rattle.score.proofs.OneOutcome.{score-one-outcome}
+use Rattle.score.proofs.OneOutcome.{scores-one}
 use Rattle.choose.specs.declared.Choice.{Choice}
 use Rattle.choose.specs.Choice.{refused, Outcome, Chosen}
 use Rattle.walk.specs.Chains.{chains}
@@ -37,16 +37,16 @@ use Rattle.walk.proofs.Falling.{down-lists}
 use Rattle.choose_walk.proofs.Fold.{walk-best}
 use Rattle.choose.proofs.LeastNeed.{walk-least}
 use Rattle.choose.proofs.Settled.{settled}
-use Rattle.choose.proofs.OneOutcome.{choose-one-outcome}
+use Rattle.choose.proofs.OneOutcome.{chosen-one}
 use Rattle.zones.specs.Zones.{rowsOf, Listed}
 use Rattle.zones.proofs.Outcome.{zonesOf, listed}
-use Rattle.zones.proofs.OneOutcome.{list-zones-one-outcome}
+use Rattle.zones.proofs.OneOutcome.{listed-one}
 use Rattle.table.specs.Table.{tableBytes, Built}
 use Rattle.table.proofs.Outcome.{rowsOf as tableOf, built}
-use Rattle.table.proofs.OneOutcome.{build-table-one-outcome}
+use Rattle.table.proofs.OneOutcome.{built-one}
 use Rattle.table_lookup.specs.Lookup.{Locates}
 use Rattle.table_lookup.proofs.Computed.{locateFor, locate-meets}
-use Rattle.table_lookup.proofs.OneOutcome.{locate-one-outcome}
+use Rattle.table_lookup.proofs.OneOutcome.{locates-one}
 use Rattle.cases.specs.Case.{Case, reading, writing, writingIn, permitting, scoring, choosing, listing, listingIn, building, buildingIn, lookingUp, Right}
 
 -- choosing: what both walks leave, unless the profile is refused
@@ -149,19 +149,19 @@ anew (lookingUp p table b answer bytes) =
 -- what each writer may answer and leave is what is computed for the buffer given
 write-computed : (p : Profile) (old : List ℕ) {r : Counted} {new : List ℕ} → Writes p old r new → Puts (writeVerdict p (length old)) (profileLength (p .n)) (profileBytes p) (profileLength (p .n)) old r new
 unfolding counted after
-write-computed p old writes = write-profile-one-outcome p old writes (record { verdict = refl; count = refl; bytes = refl })
+write-computed p old writes = writes-one p old writes (record { verdict = refl; count = refl; bytes = refl })
 
 list-computed : (p : Profile) (old : List ℕ) {r : Counted} {new : List ℕ} → Listed p old r new → Puts (rowsVerdict p (length (zonesOf p)) (length old)) (length (zonesOf p)) (rowsOf (zonesOf p)) (16 * length (zonesOf p)) old r new
 unfolding counted after
-list-computed p old is = list-zones-one-outcome p old is (listed p old (record { verdict = refl; count = refl; bytes = refl }))
+list-computed p old is = listed-one p old is (listed p old (record { verdict = refl; count = refl; bytes = refl }))
 
 build-computed : (p : Profile) (old : List ℕ) {r : Counted} {new : List ℕ} → Built p old r new → Puts (rowsVerdict p (length (tableOf p)) (length old)) (length (tableOf p)) (tableBytes (jobsOf p) (tableOf p)) (16 * length (tableOf p)) old r new
 unfolding counted after
-build-computed p old is = build-table-one-outcome p old is (built p old (record { verdict = refl; count = refl; bytes = refl }))
+build-computed p old is = built-one p old is (built p old (record { verdict = refl; count = refl; bytes = refl }))
 
 pub anew-right : (c : Case) → Right (anew c)
 unfolding anew counted readingFor writeVerdict
-anew-right (reading bytes answer) = λ r reads. read-profile-one-outcome bytes reads (record { verdict = refl; profile = refl })
+anew-right (reading bytes answer) = λ r reads. reads-one bytes reads (record { verdict = refl; profile = refl })
 anew-right (writing p answer bytes) = λ old room r new writes.
     in-room (verdictOf p) (profileLength (p .n)) (length old) (profileBytes p) old (λ k. k) refl room refl (write-computed p old writes)
 anew-right (writingIn p old answer new) = λ r left writes. write-computed p old writes
@@ -171,8 +171,8 @@ anew-right (permitting p verdict lists) = (
       (let v = sound-valid p sound .jobs in
       (chains-all multiples-lists (jobsOf p) ts v (le-refl 1), chains-only multiples-lists (jobsOf p) ts v (le-refl 1))),
 )
-anew-right (scoring p ts answer) = λ r scores. score-one-outcome p ts scores (score-meets p ts)
-anew-right (choosing p b answer) = λ r chosen. choose-one-outcome p (pagesPerHour b) chosen (choice-meets p b)
+anew-right (scoring p ts answer) = λ r scores. scores-one p ts scores (score-meets p ts)
+anew-right (choosing p b answer) = λ r chosen. chosen-one p (pagesPerHour b) chosen (choice-meets p b)
 anew-right (listing p answer bytes) = λ old room r new is. rows-in-room p (length (zonesOf p)) (rowsOf (zonesOf p)) old room (list-computed p old is)
 anew-right (listingIn p old answer new) = λ r left is. list-computed p old is
 anew-right (building p answer bytes) = λ old room r new is. rows-in-room p (length (tableOf p)) (tableBytes (jobsOf p) (tableOf p)) old room (build-computed p old is)
@@ -187,4 +187,4 @@ anew-right (lookingUp p table b answer bytes) = (
 )
   where
     is : {r : Counted} → Locates p table (pagesPerHour b) r → r ≡ locateFor p table (pagesPerHour b)
-    is located = locate-one-outcome p table (pagesPerHour b) located (locate-meets p table (pagesPerHour b))
+    is located = locates-one p table (pagesPerHour b) located (locate-meets p table (pagesPerHour b))

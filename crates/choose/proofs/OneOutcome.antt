@@ -14,6 +14,7 @@ use Rattle.model.specs.Model.{seconds, pagesPerHour, need, loss, NotAfter, NoWo
 use Rattle.model.proofs.ProfileFirst.{one-first}
 use Rattle.choose.specs.declared.Choice.{Choice}
 use Rattle.choose.specs.Choice.{answered, refused, LeastBudget, Outcome, given, none-permitted, none-fit, Chosen}
+use Rattle.choose.proofs.choose.Reads as choose-contract
 
 -- two lists of which neither comes after the other are one list
 pub not-after-both : (ts us : List Seconds) → NotAfter ts us → NotAfter us ts → ts ≡ us
@@ -53,5 +54,11 @@ one-outcome (none-fit l unfit) (given y) = absurd (unfit _ (y .permitted) (y .fi
 one-outcome (none-fit l unfit) (none-permitted no-list) = absurd (no-list _ (l .enough .1))
 one-outcome (none-fit l unfit) (none-fit l′ unfit′) = ap (λ (m : PagesPerHour). refused (Budget m)) (one-least-budget l l′)
 
-pub choose-one-outcome : (p : Profile) (b : PagesPerHour) {r s : Choice} → Chosen p b r → Chosen p b s → r ≡ s
-choose-one-outcome p b one other = one-first one-outcome one other
+pub chosen-one : (p : Profile) (b : PagesPerHour) {r s : Choice} → Chosen p b r → Chosen p b s → r ≡ s
+chosen-one p b one other = one-first one-outcome one other
+
+-- Any two outcomes that a function's own contract allows for the same arguments are equal: `Post` is what the checker makes of its
+-- clauses, so a contract that says less breaks this.
+
+pub choose-one-outcome : (κs : _) (a : _) (r s : Choice) (e e′ : _) → choose-contract.Post κs a r e → choose-contract.Post κs a s e′ → r ≡ s
+choose-one-outcome κs a r s e e′ one other = chosen-one _ _ one other

@@ -1,13 +1,13 @@
--- Any two outcomes that a public contract of this crate allows are equal: the answer, and the bytes of the lent buffer.
--- Assumes nothing.
+-- Any two outcomes that a function's own contract allows for the same arguments are equal: `Post` is what the checker makes of its
+-- clauses, so a contract that says less breaks this. Here each says which value the answer, or the lent buffer, is. Assumes nothing.
 use mathlib.Core.Path.{_≡_, _∙_, sym}
-use mathlib.Core.List.{List}
-use Prim.Native.Nat.{ℕ}
+use denote.Ref.{now}
 use Rattle.codec.specs.declared.RowWords.{RowWords}
-use Rattle.codec.specs.RowWords.{rowBytes, withRow, wordsAt}
+use Rattle.codec.proofs.put_row.Reads as put-row-contract
+use Rattle.codec.proofs.get_row.Reads as get-row-contract
 
-pub put-row-one-outcome : (old : List ℕ) (k high low : ℕ) {new other-new : List ℕ} → new ≡ withRow old k (rowBytes high low) → other-new ≡ withRow old k (rowBytes high low) → new ≡ other-new
-put-row-one-outcome old k high low one other = one ∙ sym other
+pub put-row-one-outcome : (κs : _) (a : _) (r s : _) (e e′ : _) → put-row-contract.Post κs a r e → put-row-contract.Post κs a s e′ → now (e .0) ≡ now (e′ .0)
+put-row-one-outcome κs a r s e e′ one other = one ∙ sym other
 
-pub get-row-one-outcome : (bytes : List ℕ) (k : ℕ) {r s : RowWords} → r ≡ wordsAt bytes k → s ≡ wordsAt bytes k → r ≡ s
-get-row-one-outcome bytes k one other = one ∙ sym other
+pub get-row-one-outcome : (κs : _) (a : _) (r s : RowWords) (e e′ : _) → get-row-contract.Post κs a r e → get-row-contract.Post κs a s e′ → r ≡ s
+get-row-one-outcome κs a r s e e′ one other = one ∙ sym other

@@ -16,7 +16,7 @@ use Rattle.model.proofs.Verdicts.{Refuses, beside-refusal}
 use Rattle.model.proofs.RowsPut.{none-put}
 use Rattle.profile_read.specs.declared.Reading.{Reading}
 use Rattle.profile_read.specs.Reading.{verdictOfBytes, valuesOf, noProfile}
-use Rattle.profile_read.proofs.OneOutcome.{read-profile-one-outcome}
+use Rattle.profile_read.proofs.OneOutcome.{reads-one}
 use Rattle.table.specs.Table.{TableOf, Built}
 use Rattle.table.proofs.OneOutcome.{table-one}
 use Rattle.table.proofs.Outcome.{rowsOf, built}
@@ -39,7 +39,7 @@ pub text-one : (input : List ℕ) {text other-text : List ℕ} → Text input te
 text-one input one other = one .is ∙ ⊎-elim sound refused (sound-or-refused (verdictOf (one .reading .profile))) ∙ sym (other .is)
   where
     same : one .reading ≡ other .reading
-    same = read-profile-one-outcome input (one .read) (other .read)
+    same = reads-one input (one .read) (other .read)
 
     sound : verdictOf (one .reading .profile) ≡ Sound → textOf (one .reading) (one .rows) ≡ textOf (other .reading) (other .rows)
     sound e =

@@ -1,20 +1,21 @@
--- Any two outcomes that a public contract of this crate allows are equal: each contract says which value the answer is.
--- Assumes nothing.
+-- Any two outcomes that a function's own contract allows for the same arguments are equal: `Post` is what the checker makes of its
+-- clauses, so a contract that says less breaks this. Here each contract says which value the answer is. Assumes nothing.
 use mathlib.Core.Path.{_≡_, _∙_, sym}
 use Prim.Native.Nat.{ℕ}
-use Rattle.model.specs.declared.Job.{Job}
-use Rattle.model.specs.declared.Profile.{Profile}
 use Rattle.model.specs.declared.Verdict.{Verdict}
-use Rattle.model.specs.Model.{numberOf, detailOf, judgeIntervalAndStiffness, verdictOf}
+use Rattle.model.proofs.number.Reads as number-contract
+use Rattle.model.proofs.detail.Reads as detail-contract
+use Rattle.model.proofs.judge_interval_and_stiffness.Reads as judge-interval-and-stiffness-contract
+use Rattle.model.proofs.judge.Reads as judge-contract
 
-pub number-one-outcome : (v : Verdict) {r s : ℕ} → r ≡ numberOf v → s ≡ numberOf v → r ≡ s
-number-one-outcome v one other = one ∙ sym other
+pub number-one-outcome : (κs : _) (a : _) (r s : ℕ) (e e′ : _) → number-contract.Post κs a r e → number-contract.Post κs a s e′ → r ≡ s
+number-one-outcome κs a r s e e′ one other = one ∙ sym other
 
-pub detail-one-outcome : (v : Verdict) {r s : ℕ} → r ≡ detailOf v → s ≡ detailOf v → r ≡ s
-detail-one-outcome v one other = one ∙ sym other
+pub detail-one-outcome : (κs : _) (a : _) (r s : ℕ) (e e′ : _) → detail-contract.Post κs a r e → detail-contract.Post κs a s e′ → r ≡ s
+detail-one-outcome κs a r s e e′ one other = one ∙ sym other
 
-pub judge-interval-and-stiffness-one-outcome : (j : Job) (k : ℕ) {r s : Verdict} → r ≡ judgeIntervalAndStiffness j k → s ≡ judgeIntervalAndStiffness j k → r ≡ s
-judge-interval-and-stiffness-one-outcome j k one other = one ∙ sym other
+pub judge-interval-and-stiffness-one-outcome : (κs : _) (a : _) (r s : Verdict) (e e′ : _) → judge-interval-and-stiffness-contract.Post κs a r e → judge-interval-and-stiffness-contract.Post κs a s e′ → r ≡ s
+judge-interval-and-stiffness-one-outcome κs a r s e e′ one other = one ∙ sym other
 
-pub judge-one-outcome : (p : Profile) {r s : Verdict} → r ≡ verdictOf p → s ≡ verdictOf p → r ≡ s
-judge-one-outcome p one other = one ∙ sym other
+pub judge-one-outcome : (κs : _) (a : _) (r s : Verdict) (e e′ : _) → judge-contract.Post κs a r e → judge-contract.Post κs a s e′ → r ≡ s
+judge-one-outcome κs a r s e e′ one other = one ∙ sym other

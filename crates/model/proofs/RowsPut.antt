@@ -61,9 +61,9 @@ unfolding rowsVerdict orElse refuseIf ifSound
 refused-alike p old k l bytes others e = (simp e, simp e)
 
 -- Where a sound profile has the same rows for both, there is one outcome.
-pub rows-one-outcome : (p : Profile) (old : List ℕ) {k l : ℕ} {bytes others : List ℕ} {r s : Counted} {new other-new : List ℕ} → (verdictOf p ≡ Sound → (k ≡ l) × (bytes ≡ others))
+pub puts-rows-one : (p : Profile) (old : List ℕ) {k l : ℕ} {bytes others : List ℕ} {r s : Counted} {new other-new : List ℕ} → (verdictOf p ≡ Sound → (k ≡ l) × (bytes ≡ others))
     → PutsRows p k bytes old r new → PutsRows p l others old s other-new → (r ≡ s) × (new ≡ other-new)
-rows-one-outcome p old {k} {l} {bytes} {others} same one other = (is one ∙ alike .0 ∙ sym (is other), one .bytes ∙ alike .1 ∙ sym (other .bytes))
+puts-rows-one p old {k} {l} {bytes} {others} same one other = (is one ∙ alike .0 ∙ sym (is other), one .bytes ∙ alike .1 ∙ sym (other .bytes))
   where
     is : {m : ℕ} {held : List ℕ} {q : Counted} {after : List ℕ} → (put : PutsRows p m held old q after) → q ≡ answer p old m
     is put = λ i. record { verdict = put .verdict i; count = put .count i }

@@ -1,28 +1,29 @@
--- Any two outcomes that a public contract of this crate allows are equal, since the operations behind it have one outcome.
--- Assumes nothing.
+-- Any two outcomes that a function's own contract allows for the same arguments are equal: `Post` is what the checker makes of its
+-- clauses, so a contract that says less breaks this. The operations behind these have one outcome. Assumes nothing.
 use mathlib.Core.Path.{_≡_, _∙_, sym, ap}
-use mathlib.Core.List.{List, [], _∷_}
+use mathlib.Core.List.{List}
 use Prim.Native.Nat.{ℕ}
 use lib.Seq.{sets}
+use denote.Ref.{now}
 use Rattle.model.specs.declared.Verdict.{Verdict}
 use Rattle.model.specs.declared.Counted.{Counted}
-use Rattle.model.specs.Model.{pagesPerHour, ifSound}
-use Rattle.profile_read.specs.Reading.{Reads}
-use Rattle.profile_read.proofs.OneOutcome.{read-profile-one-outcome}
-use Rattle.profile_write.specs.Writing.{Writes}
-use Rattle.profile_write.proofs.OneOutcome.{write-profile-one-outcome}
-use Rattle.score.specs.Scoring.{Scores}
-use Rattle.score.proofs.OneOutcome.{score-one-outcome}
-use Rattle.choose.specs.Choice.{Chosen}
-use Rattle.choose.proofs.OneOutcome.{choose-one-outcome}
-use Rattle.zones.specs.Zones.{Listed}
-use Rattle.zones.proofs.OneOutcome.{list-zones-one-outcome}
-use Rattle.table.specs.Table.{Built}
-use Rattle.table.proofs.OneOutcome.{build-table-one-outcome}
-use Rattle.table_lookup.specs.Lookup.{Locates}
-use Rattle.table_lookup.proofs.OneOutcome.{locate-one-outcome}
-use Rattle.exchange.specs.Numbers.{resultOf, countedOf, profileIn, numbersOf, periodsIn, answerOf}
+use Rattle.model.specs.Model.{ifSound}
+use Rattle.profile_read.proofs.OneOutcome.{reads-one}
+use Rattle.profile_write.proofs.OneOutcome.{writes-one}
+use Rattle.score.proofs.OneOutcome.{scores-one}
+use Rattle.choose.proofs.OneOutcome.{chosen-one}
+use Rattle.zones.proofs.OneOutcome.{listed-one}
+use Rattle.table.proofs.OneOutcome.{built-one}
+use Rattle.table_lookup.proofs.OneOutcome.{locates-one}
+use Rattle.exchange.specs.Numbers.{resultOf, countedOf}
 use Rattle.planner.specs.ForC.{CountsForC, LeavesForC}
+use Rattle.planner.proofs.charopleth_read.Reads as charopleth-read-contract
+use Rattle.planner.proofs.charopleth_write.Reads as charopleth-write-contract
+use Rattle.planner.proofs.charopleth_score.Reads as charopleth-score-contract
+use Rattle.planner.proofs.charopleth_choose.Reads as charopleth-choose-contract
+use Rattle.planner.proofs.charopleth_zones.Reads as charopleth-zones-contract
+use Rattle.planner.proofs.charopleth_table.Reads as charopleth-table-contract
+use Rattle.planner.proofs.charopleth_lookup.Reads as charopleth-lookup-contract
 
 -- the same answer is told as the same number
 counts-alike : {One Other : Counted → Type 0} {r s : ℕ} (one : CountsForC One r) (other : CountsForC Other s) → one .answer ≡ other .answer → r ≡ s
@@ -35,30 +36,29 @@ leaves-alike {A} {verdict} {numbers} {old} one other same = (
   one .array ∙ ap (λ (a : A). ifSound (verdict a) (sets old 0 (numbers a)) old) same ∙ sym (other .array),
 )
 
-pub charopleth-read-one-outcome : (bytes old : List ℕ) {r s : ℕ} {new other-new : List ℕ} → LeavesForC (Reads bytes) (λ a. a .verdict) (λ a. numbersOf (a .profile)) old r new → LeavesForC (Reads bytes) (λ a. a .verdict) (λ a. numbersOf (a .profile)) old s other-new → (r ≡ s) × (new ≡ other-new)
-charopleth-read-one-outcome bytes old one other = leaves-alike one other (read-profile-one-outcome bytes (one .allowed) (other .allowed))
+pub charopleth-read-one-outcome : (κs : _) (a : _) (r s : ℕ) (e e′ : _) → charopleth-read-contract.Post κs a r e → charopleth-read-contract.Post κs a s e′ → (r ≡ s) × (now (e .1 .0) ≡ now (e′ .1 .0))
+charopleth-read-one-outcome κs a r s e e′ one other = leaves-alike one other (reads-one _ (one .allowed) (other .allowed))
 
-pub charopleth-write-one-outcome : (n : ℕ) (jobs : List ℕ) (old : List ℕ) {r s : ℕ} {new other-new : List ℕ} → CountsForC (λ a. Writes (profileIn n jobs) old a new) r → CountsForC (λ a. Writes (profileIn n jobs) old a other-new) s → (r ≡ s) × (new ≡ other-new)
-charopleth-write-one-outcome n jobs old one other =
-    let same = write-profile-one-outcome (profileIn n jobs) old (one .allowed) (other .allowed) in
+pub charopleth-write-one-outcome : (κs : _) (a : _) (r s : ℕ) (e e′ : _) → charopleth-write-contract.Post κs a r e → charopleth-write-contract.Post κs a s e′ → (r ≡ s) × (now (e .1 .1 .0) ≡ now (e′ .1 .1 .0))
+charopleth-write-one-outcome κs a r s e e′ one other =
+    let same = writes-one _ _ (one .allowed) (other .allowed) in
     (counts-alike one other (same .0), same .1)
 
-pub charopleth-score-one-outcome : (n : ℕ) (jobs periods old : List ℕ) {r s : ℕ} {new other-new : List ℕ} → LeavesForC (Scores (profileIn n jobs) (periodsIn periods)) (λ a. a .verdict) (λ a. a .need .0 ∷ a .loss ∷ []) old r new → LeavesForC (Scores (profileIn n jobs) (periodsIn periods)) (λ a. a .verdict) (λ a. a .need .0 ∷ a .loss ∷ []) old s other-new → (r ≡ s) × (new ≡ other-new)
-charopleth-score-one-outcome n jobs periods old one other = leaves-alike one other (score-one-outcome (profileIn n jobs) (periodsIn periods) (one .allowed) (other .allowed))
+pub charopleth-score-one-outcome : (κs : _) (a : _) (r s : ℕ) (e e′ : _) → charopleth-score-contract.Post κs a r e → charopleth-score-contract.Post κs a s e′ → (r ≡ s) × (now (e .1 .1 .1 .0) ≡ now (e′ .1 .1 .1 .0))
+charopleth-score-one-outcome κs a r s e e′ one other = leaves-alike one other (scores-one _ _ (one .allowed) (other .allowed))
 
-pub charopleth-choose-one-outcome : (n : ℕ) (jobs : List ℕ) (budget : ℕ) (old : List ℕ) {r s : ℕ} {new other-new : List ℕ} → LeavesForC (Chosen (profileIn n jobs) (pagesPerHour budget)) (λ a. a .verdict) (λ a. answerOf (a .need) (a .loss) (a .periods)) old r new → LeavesForC (Chosen (profileIn n jobs) (pagesPerHour budget)) (λ a. a .verdict) (λ a. answerOf (a .need) (a .loss) (a .periods)) old s other-new → (r ≡ s) × (new ≡ other-new)
-charopleth-choose-one-outcome n jobs budget old one other = leaves-alike one other (choose-one-outcome (profileIn n jobs) (pagesPerHour budget) (one .allowed) (other .allowed))
+pub charopleth-choose-one-outcome : (κs : _) (a : _) (r s : ℕ) (e e′ : _) → charopleth-choose-contract.Post κs a r e → charopleth-choose-contract.Post κs a s e′ → (r ≡ s) × (now (e .1 .1 .1 .0) ≡ now (e′ .1 .1 .1 .0))
+charopleth-choose-one-outcome κs a r s e e′ one other = leaves-alike one other (chosen-one _ _ (one .allowed) (other .allowed))
 
-pub charopleth-zones-one-outcome : (n : ℕ) (jobs : List ℕ) (old : List ℕ) {r s : ℕ} {new other-new : List ℕ} → CountsForC (λ a. Listed (profileIn n jobs) old a new) r → CountsForC (λ a. Listed (profileIn n jobs) old a other-new) s → (r ≡ s) × (new ≡ other-new)
-charopleth-zones-one-outcome n jobs old one other =
-    let same = list-zones-one-outcome (profileIn n jobs) old (one .allowed) (other .allowed) in
+pub charopleth-zones-one-outcome : (κs : _) (a : _) (r s : ℕ) (e e′ : _) → charopleth-zones-contract.Post κs a r e → charopleth-zones-contract.Post κs a s e′ → (r ≡ s) × (now (e .1 .1 .0) ≡ now (e′ .1 .1 .0))
+charopleth-zones-one-outcome κs a r s e e′ one other =
+    let same = listed-one _ _ (one .allowed) (other .allowed) in
     (counts-alike one other (same .0), same .1)
 
-pub charopleth-table-one-outcome : (n : ℕ) (jobs : List ℕ) (old : List ℕ) {r s : ℕ} {new other-new : List ℕ} → CountsForC (λ a. Built (profileIn n jobs) old a new) r → CountsForC (λ a. Built (profileIn n jobs) old a other-new) s → (r ≡ s) × (new ≡ other-new)
-charopleth-table-one-outcome n jobs old one other =
-    let same = build-table-one-outcome (profileIn n jobs) old (one .allowed) (other .allowed) in
+pub charopleth-table-one-outcome : (κs : _) (a : _) (r s : ℕ) (e e′ : _) → charopleth-table-contract.Post κs a r e → charopleth-table-contract.Post κs a s e′ → (r ≡ s) × (now (e .1 .1 .0) ≡ now (e′ .1 .1 .0))
+charopleth-table-one-outcome κs a r s e e′ one other =
+    let same = built-one _ _ (one .allowed) (other .allowed) in
     (counts-alike one other (same .0), same .1)
 
-pub charopleth-lookup-one-outcome : (n : ℕ) (jobs : List ℕ) (table : List ℕ) (budget : ℕ) {r s : ℕ} → CountsForC (Locates (profileIn n jobs) table (pagesPerHour budget)) r → CountsForC (Locates (profileIn n jobs) table (pagesPerHour budget)) s → r ≡ s
-charopleth-lookup-one-outcome n jobs table budget one other =
-    counts-alike one other (locate-one-outcome (profileIn n jobs) table (pagesPerHour budget) (one .allowed) (other .allowed))
+pub charopleth-lookup-one-outcome : (κs : _) (a : _) (r s : ℕ) (e e′ : _) → charopleth-lookup-contract.Post κs a r e → charopleth-lookup-contract.Post κs a s e′ → r ≡ s
+charopleth-lookup-one-outcome κs a r s e e′ one other = counts-alike one other (locates-one _ _ _ (one .allowed) (other .allowed))

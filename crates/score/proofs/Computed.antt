@@ -18,7 +18,7 @@ use Rattle.score.specs.declared.Scored.{Scored}
 use Rattle.score.specs.Scoring.{refused, Scoring, all-in, one-out, Scores}
 use Rattle.score.specs.Judging.{firstUnpermitted, scoreVerdict}
 use Rattle.score.proofs.Permission.{sound-permitted, permitted-sound, permitted-or-first-out}
-use Rattle.score.proofs.OneOutcome.{score-one-outcome}
+use Rattle.score.proofs.OneOutcome.{scores-one}
 
 -- need and loss beside a verdict
 unfoldable pub scoredBy : List Job → List Seconds → Verdict → Scored
@@ -56,7 +56,7 @@ module _ (p : Profile) (ts : List Seconds) where
 
   module _ {s : Scored} (scores : Scores p ts s) where
     pub verdict-is : s .verdict ≡ scoreVerdict p ts
-    verdict-is = ap (λ (r : Scored). r .verdict) (score-one-outcome p ts scores (score-meets p ts)) ∙ by-tests
+    verdict-is = ap (λ (r : Scored). r .verdict) (scores-one p ts scores (score-meets p ts)) ∙ by-tests
 
     pub sound-own : s .verdict ≡ Sound → verdictOf p ≡ Sound
     unfolding scoreVerdict
@@ -70,5 +70,5 @@ module _ (p : Profile) (ts : List Seconds) where
     unfolding scoreFor scoredBy scoreVerdict
     sound-loss e =
         let both = both-sound (verdictOf p) (sym verdict-is ∙ e) in
-        ap (λ (r : Scored). r .loss) (score-one-outcome p ts scores (score-meets p ts) ∙ sym (beside-sound _ _ (sym (both .0))))
+        ap (λ (r : Scored). r .loss) (scores-one p ts scores (score-meets p ts) ∙ sym (beside-sound _ _ (sym (both .0))))
         ∙ sym (beside-sound _ _ (sym (both .1)))

@@ -11,6 +11,7 @@ use Rattle.model.proofs.ProfileFirst.{one-first}
 use Rattle.score.specs.declared.Scored.{Scored}
 use Rattle.score.specs.Scoring.{refused, Scoring, all-in, one-out, Scores}
 use Rattle.score.proofs.Permission.{permitted-none-out, one-first-out}
+use Rattle.score.proofs.score.Reads as score-contract
 
 scoring-one : {js : List Job} {ts : List Seconds} {r s : Scored} → Scoring js ts r → Scoring js ts s → r ≡ s
 scoring-one (all-in h) (all-in k) = refl
@@ -18,5 +19,11 @@ scoring-one {js} {ts} (all-in h) (one-out f) = absurd (permitted-none-out js ts 
 scoring-one {js} {ts} (one-out f) (all-in h) = absurd (permitted-none-out js ts h f)
 scoring-one (one-out f) (one-out g) = ap (λ (k : ℕ). refused (Periods k)) (one-first-out f g)
 
-pub score-one-outcome : (p : Profile) (ts : List Seconds) {r s : Scored} → Scores p ts r → Scores p ts s → r ≡ s
-score-one-outcome p ts one other = one-first scoring-one one other
+pub scores-one : (p : Profile) (ts : List Seconds) {r s : Scored} → Scores p ts r → Scores p ts s → r ≡ s
+scores-one p ts one other = one-first scoring-one one other
+
+-- Any two outcomes that a function's own contract allows for the same arguments are equal: `Post` is what the checker makes of its
+-- clauses, so a contract that says less breaks this.
+
+pub score-one-outcome : (κs : _) (a : _) (r s : Scored) (e e′ : _) → score-contract.Post κs a r e → score-contract.Post κs a s e′ → r ≡ s
+score-one-outcome κs a r s e e′ one other = scores-one _ _ one other

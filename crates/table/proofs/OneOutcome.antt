@@ -10,9 +10,11 @@ use Rattle.model.specs.declared.Job.{Job}
 use Rattle.model.specs.declared.Profile.{Profile}
 use Rattle.model.specs.declared.Counted.{Counted}
 use Rattle.model.specs.Model.{jobsOf}
-use Rattle.model.proofs.RowsPut.{rows-one-outcome}
+use Rattle.model.proofs.RowsPut.{puts-rows-one}
 use Rattle.table.specs.Table.{TableOf, tableBytes, Built}
 use Rattle.table.proofs.Rising.{Within, rising-one}
+use denote.Ref.{now}
+use Rattle.table.proofs.build_table.Reads as build-table-contract
 
 -- Jobs have one table.
 pub table-one : (js : List Job) {xs ys : List (List Seconds)} → TableOf js xs → TableOf js ys → xs ≡ ys
@@ -23,6 +25,12 @@ table-one js {xs} {ys} a b = rising-one js xs ys (a .rising) (b .rising) (into a
         let s = p .some-budget ts m in
         q .every-budget (s .0) ts (s .1) (s .2)
 
-pub build-table-one-outcome : (p : Profile) (old : List ℕ) {r s : Counted} {new other-new : List ℕ} → Built p old r new → Built p old s other-new → (r ≡ s) × (new ≡ other-new)
-build-table-one-outcome p old one other =
-    rows-one-outcome p old (λ sound. let same = table-one (jobsOf p) (one .are sound) (other .are sound) in (ap length same, ap (tableBytes (jobsOf p)) same)) (one .puts) (other .puts)
+pub built-one : (p : Profile) (old : List ℕ) {r s : Counted} {new other-new : List ℕ} → Built p old r new → Built p old s other-new → (r ≡ s) × (new ≡ other-new)
+built-one p old one other =
+    puts-rows-one p old (λ sound. let same = table-one (jobsOf p) (one .are sound) (other .are sound) in (ap length same, ap (tableBytes (jobsOf p)) same)) (one .puts) (other .puts)
+
+-- Any two outcomes that a function's own contract allows for the same arguments are equal: `Post` is what the checker makes of its
+-- clauses, so a contract that says less breaks this.
+
+pub build-table-one-outcome : (κs : _) (a : _) (r s : Counted) (e e′ : _) → build-table-contract.Post κs a r e → build-table-contract.Post κs a s e′ → (r ≡ s) × (now (e .1 .0) ≡ now (e′ .1 .0))
+build-table-one-outcome κs a r s e e′ one other = built-one _ _ one other

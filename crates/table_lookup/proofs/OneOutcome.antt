@@ -22,6 +22,10 @@ use Rattle.model.proofs.Verdicts.{Refuses, beside-sound}
 use Rattle.table_check.specs.Formed.{FirstBadRow}
 use Rattle.table_lookup.specs.Lookup.{Answers, noRow, Finds, wrong-length, bad-row, below-first, answering, Locates, JudgesLookup, LooksUp}
 use Rattle.table_lookup.proofs.Finding.{one-answers, below-none}
+use denote.Ref.{now, ptr}
+use Rattle.table_lookup.proofs.lookup.Reads as lookup-contract
+use Rattle.table_lookup.proofs.locate.Reads as locate-contract
+use Rattle.table_lookup.proofs.judge_lookup.Reads as judge-lookup-contract
 
 first-bad-one : {p : Profile} {bytes : List ℕ} (k j : ℕ) → FirstBadRow p bytes k → FirstBadRow p bytes j → k ≡ j
 first-bad-one k j one other = go (ltb k j) refl (ltb j k) refl
@@ -49,16 +53,16 @@ finds-one (answering w a) (bad-row w′ f) = absurd (f .bad (w .rows _ (f .there
 finds-one {p} {bytes} {b} (answering w a) (below-first w′ l) = absurd (below-none p bytes w b l _ a)
 finds-one {p} {bytes} {b} (answering w a) (answering w′ a′) = ap (λ (k : ℕ). record { verdict = Sound; count = k + 1 }) (one-answers bytes b _ _ a a′)
 
-pub locate-one-outcome : (p : Profile) (bytes : List ℕ) (b : PagesPerHour) {r s : Counted} → Locates p bytes b r → Locates p bytes b s → r ≡ s
-locate-one-outcome p bytes b one other = one-first finds-one one other
+pub locates-one : (p : Profile) (bytes : List ℕ) (b : PagesPerHour) {r s : Counted} → Locates p bytes b r → Locates p bytes b s → r ≡ s
+locates-one p bytes b one other = one-first finds-one one other
 
-pub judge-lookup-one-outcome : (p : Profile) (bytes : List ℕ) (b : PagesPerHour) {r s : Verdict} → JudgesLookup p bytes b r → JudgesLookup p bytes b s → r ≡ s
-judge-lookup-one-outcome p bytes b one other = one .verdict ∙ ap (λ (c : Counted). c .verdict) (locate-one-outcome p bytes b (one .located) (other .located)) ∙ sym (other .verdict)
+pub judges-one : (p : Profile) (bytes : List ℕ) (b : PagesPerHour) {r s : Verdict} → JudgesLookup p bytes b r → JudgesLookup p bytes b s → r ≡ s
+judges-one p bytes b one other = one .verdict ∙ ap (λ (c : Counted). c .verdict) (locates-one p bytes b (one .located) (other .located)) ∙ sym (other .verdict)
 
 -- a part is the same bytes at the same place
-pub lookup-one-outcome : (p : Profile) (bytes : List ℕ) (lies : ℕ × ℕ) (b : PagesPerHour) {r s : List ℕ} {at other-at : ℕ × ℕ} → LooksUp p bytes lies b r at → LooksUp p bytes lies b s other-at → (r ≡ s) × (at ≡ other-at)
-lookup-one-outcome p bytes lies b one other =
-    let same = locate-one-outcome p bytes b (one .located) (other .located) in
+pub looks-up-one : (p : Profile) (bytes : List ℕ) (lies : ℕ × ℕ) (b : PagesPerHour) {r s : List ℕ} {at other-at : ℕ × ℕ} → LooksUp p bytes lies b r at → LooksUp p bytes lies b s other-at → (r ≡ s) × (at ≡ other-at)
+looks-up-one p bytes lies b one other =
+    let same = locates-one p bytes b (one .located) (other .located) in
     (one .holds ∙ ap (λ (c : Counted). ifSound (c .verdict) (take 16 (drop (16 * (c .count - 1)) bytes)) []) same ∙ sym (other .holds), one .place ∙ ap (λ (c : Counted). (lies .0, lies .1 + 16 * (c .count - 1))) same ∙ sym (other .place))
 
 -- beside a sound verdict stands the number of a row that answers, and beside a refusal none
@@ -124,7 +128,7 @@ module _ (p : Profile) (bytes : List ℕ) (b : PagesPerHour) {v : Verdict} (told
 -- on the same inputs: a refusal and the empty part, or no refusal and the sixteen bytes of a row
 module _ (p : Profile) (bytes : List ℕ) (lies : ℕ × ℕ) (b : PagesPerHour) {r : List ℕ} {at : ℕ × ℕ} {v : Verdict} (part : LooksUp p bytes lies b r at) (told : JudgesLookup p bytes b v) where
   same-verdict : v ≡ part .found .verdict
-  same-verdict = told .verdict ∙ ap (λ (c : Counted). c .verdict) (locate-one-outcome p bytes b (told .located) (part .located))
+  same-verdict = told .verdict ∙ ap (λ (c : Counted). c .verdict) (locates-one p bytes b (told .located) (part .located))
 
   pub refused-empty : (v ≡ Sound → ⊥) → r ≡ []
   refused-empty unsound = part .holds ∙ beside-unsound _ _ (λ e. unsound (same-verdict ∙ e))
@@ -142,7 +146,19 @@ lookups-agree p bytes lies b part told = (refused-empty p bytes lies b part told
 -- where a row is handed back, it is the row of the number told beside it
 pub located-part : (p : Profile) (bytes : List ℕ) (lies : ℕ × ℕ) (b : PagesPerHour) {r : List ℕ} {at : ℕ × ℕ} {l : Counted} → LooksUp p bytes lies b r at → Locates p bytes b l → l .verdict ≡ Sound → r ≡ take 16 (drop (16 * (l .count - 1)) bytes)
 located-part p bytes lies b {r} {at} {l} part told e =
-    let same = locate-one-outcome p bytes b (part .located) told in
+    let same = locates-one p bytes b (part .located) told in
     part .holds
     ∙ ap (λ (c : Counted). ifSound (c .verdict) (take 16 (drop (16 * (c .count - 1)) bytes)) []) same
     ∙ sym (beside-sound _ _ (sym e))
+
+-- Any two outcomes that a function's own contract allows for the same arguments are equal: `Post` is what the checker makes of its
+-- clauses, so a contract that says less breaks this.
+
+pub locate-one-outcome : (κs : _) (a : _) (r s : Counted) (e e′ : _) → locate-contract.Post κs a r e → locate-contract.Post κs a s e′ → r ≡ s
+locate-one-outcome κs a r s e e′ one other = locates-one _ _ _ one other
+
+pub judge-lookup-one-outcome : (κs : _) (a : _) (r s : Verdict) (e e′ : _) → judge-lookup-contract.Post κs a r e → judge-lookup-contract.Post κs a s e′ → r ≡ s
+judge-lookup-one-outcome κs a r s e e′ one other = judges-one _ _ _ one other
+
+pub lookup-one-outcome : (κs : _) (a : _) (r s : _) (e e′ : _) → lookup-contract.Post κs a r e → lookup-contract.Post κs a s e′ → (now r ≡ now s) × (ptr r ≡ ptr s)
+lookup-one-outcome κs a r s e e′ one other = looks-up-one _ _ _ _ one other
