@@ -173,11 +173,16 @@ unfoldable pub firstRefused : {A : Type 0} → (A → ℕ → Verdict) → ℕ �
 firstRefused judgeOne k [] = Sound
 firstRefused judgeOne k (x ∷ xs) = orElse (judgeOne x (k + 1)) (firstRefused judgeOne (k + 1) xs)
 
+-- What 5 and 6 ask (Refusal numbers).
+abbrev pub badInterval : Job → Bool
+badInterval j = eqb (j .lo .0) 0 || (ltb (j .hi .0) (j .lo .0) || ltb 3600 (j .hi .0))
+
+abbrev pub badStiffness : Job → Bool
+badStiffness j = eqb (j .stiffness) 0 || ltb 32 (j .stiffness)
+
 -- 5, then 6, for the job numbered k: what bytes and values share (Refusal numbers).
 unfoldable pub judgeIntervalAndStiffness : Job → ℕ → Verdict
-judgeIntervalAndStiffness j k =
-    refuseIf (eqb (j .lo .0) 0 || (ltb (j .hi .0) (j .lo .0) || ltb 3600 (j .hi .0))) (Interval k)
-    (refuseIf (eqb (j .stiffness) 0 || ltb 32 (j .stiffness)) (Stiffness k) Sound)
+judgeIntervalAndStiffness j k = refuseIf (badInterval j) (Interval k) (refuseIf (badStiffness j) (Stiffness k) Sound)
 
 -- 5, 6, then 8, for the job numbered k, given as values (Refusal numbers).
 unfoldable pub judgeJob : Job → ℕ → Verdict

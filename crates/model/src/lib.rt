@@ -4,7 +4,7 @@
 // Nothing is assumed, and but for `allowed` no function here has a `requires`.
 ghost use mathlib.Core.Path.{_≡_};
 ghost use Prim.Native.Nat.{_≤_};
-ghost use Rattle.model.specs.Model.{numberOf, detailOf, judgeIntervalAndStiffness, judgeJob, verdictOf, countVerdict, allows};
+ghost use Rattle.model.specs.Model.{numberOf, detailOf, badInterval, badStiffness, judgeIntervalAndStiffness, judgeJob, verdictOf, countVerdict, allows};
 
 // Whole seconds: a period, or an end of a job's interval.
 pub struct Seconds(pub u32);
@@ -151,22 +151,38 @@ fn judge_job(j: Job, k: u32) -> Verdict
 pub fn judge_interval_and_stiffness(j: Job, k: u32) -> Verdict
     ensures { λ r. ⌜ r ≡ judgeIntervalAndStiffness j k ⌝ }
 {
-    if j.lo.0 == 0 {
+    let interval = bad_interval(j);
+    let stiffness = bad_stiffness(j);
+    if interval {
         return Verdict::Interval(k);
     }
-    if j.hi.0 < j.lo.0 {
-        return Verdict::Interval(k);
-    }
-    if 3600 < j.hi.0 {
-        return Verdict::Interval(k);
-    }
-    if j.stiffness == 0 {
-        return Verdict::Stiffness(k);
-    }
-    if 32 < j.stiffness {
+    if stiffness {
         return Verdict::Stiffness(k);
     }
     Verdict::Sound
+}
+
+// Whether an interval is none within the hour.
+fn bad_interval(j: Job) -> bool
+    ensures { λ r. ⌜ r ≡ badInterval j ⌝ }
+{
+    if j.lo.0 == 0 {
+        return true;
+    }
+    if j.hi.0 < j.lo.0 {
+        return true;
+    }
+    3600 < j.hi.0
+}
+
+// Whether a stiffness is outside 1 to 32.
+fn bad_stiffness(j: Job) -> bool
+    ensures { λ r. ⌜ r ≡ badStiffness j ⌝ }
+{
+    if j.stiffness == 0 {
+        return true;
+    }
+    32 < j.stiffness
 }
 
 // The verdict on `count` rows for `size` lent bytes, past the profile's own: 9 where there are none, then 11.
