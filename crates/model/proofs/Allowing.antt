@@ -6,7 +6,8 @@ use lib.Dec.{ltb}
 use borrow.Author.Tests.{ltb-false, eqb-true, eqb-false, not-true, le-ltb, eq-eqb}
 use Rattle.model.specs.declared.Seconds.{Seconds}
 use Rattle.model.specs.declared.Job.{Job}
-use Rattle.model.specs.Model.{Allowed, allows}
+use Rattle.model.specs.Model.{Allowed}
+use Rattle.model.specs.Testing.{allows}
 
 pub both-true : (a : Bool) {b : Bool} → (a && b) ≡ true → (a ≡ true) × (b ≡ true)
 both-true true e = (refl, e)

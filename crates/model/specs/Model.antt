@@ -3,7 +3,7 @@
 -- cites publicly. Need, loss and permitted periods are meant for the jobs of a valid profile. Assumes nothing.
 use mathlib.Core.Path.{_≡_}
 use mathlib.Core.List.{List, [], _∷_, _++_}
-use mathlib.Core.Bool.{Bool, true, false, not, cond, _&&_, _||_}
+use mathlib.Core.Bool.{Bool, true, false, cond, _||_}
 use Prim.Native.Nat.{ℕ, zero, suc, _+_, _*_, _-_, _/_, _%_, _^_, _≤_}
 use lib.ListN.{length, getD, drop, replicate}
 use lib.Dec.{eqb, ltb}
@@ -59,10 +59,6 @@ pub record Allowed (j : Job) (before t : Seconds) : Type 0 where
   pub below : t .0 ≤ j .hi .0
   pub multiple : t .0 % before .0 ≡ 0
 
--- The same as a test.
-unfoldable pub allows : Job → Seconds → Seconds → Bool
-allows j before t = not (ltb (t .0) (j .lo .0)) && (not (ltb (j .hi .0) (t .0)) && eqb (t .0 % before .0) 0)
-
 -- One period for each job, each allowed after the one before it (Quantities).
 abbrev pub PermittedAfter : Seconds → List Job → List Seconds → Type 0
 PermittedAfter before [] [] = Unit {0}
@@ -85,7 +81,7 @@ pagesIn span [] ts = 0
 pagesIn span (j ∷ js) [] = 0
 pagesIn span (j ∷ js) (t ∷ ts) = load j * (span .0 / t .0) + pagesIn span js ts
 
--- A fraction rounded up to a whole number, where b is not 0. No period of a valid profile is.
+-- A fraction rounded up to a whole number; over 0 it is 0, but no permitted period of a valid profile is 0.
 abbrev pub roundUp : ℕ → ℕ → ℕ
 roundUp a b = (a + (b - 1)) / b
 

@@ -4,7 +4,8 @@
 // Nothing is assumed, and but for `allowed` no function here has a `requires`.
 ghost use mathlib.Core.Path.{_≡_};
 ghost use Prim.Native.Nat.{_≤_};
-ghost use Rattle.model.specs.Model.{numberOf, detailOf, badInterval, badStiffness, judgeIntervalAndStiffness, judgeJob, verdictOf, countVerdict, allows};
+ghost use Rattle.model.specs.Model.{numberOf, detailOf, badInterval, badStiffness, judgeIntervalAndStiffness, judgeJob, verdictOf, countVerdict};
+ghost use Rattle.model.specs.Testing.{allows};
 
 // Whole seconds: a period, or an end of a job's interval.
 pub struct Seconds(pub u32);

@@ -13,7 +13,8 @@ use Rattle.model.specs.declared.Seconds.{Seconds}
 use Rattle.model.specs.declared.Job.{Job}
 use Rattle.model.specs.declared.Verdict.{Verdict}
 use Rattle.model.specs.declared.Verdict.the-variants.{Sound, Periods}
-use Rattle.model.specs.Model.{seconds, noJob, entries, Allowed, allows, PermittedAfter, Permitted, refuseIf, orElse, numberOf}
+use Rattle.model.specs.Model.{seconds, noJob, entries, Allowed, PermittedAfter, Permitted, refuseIf, orElse, numberOf}
+use Rattle.model.specs.Testing.{allows}
 use Rattle.model.proofs.Entries.{entries-step, entries-end}
 use Rattle.model.proofs.Allowing.{allowed, allowed-back}
 use Rattle.model.proofs.Verdicts.{test-passed, both-sound, sound-passes}

@@ -8,7 +8,8 @@ use Rattle.model.specs.declared.Job.{Job}
 use Rattle.model.specs.declared.Profile.{Profile}
 use Rattle.model.specs.declared.Verdict.{Verdict}
 use Rattle.model.specs.declared.Verdict.the-variants.{Sound, Periods}
-use Rattle.model.specs.Model.{seconds, jobsOf, periodsOf, allows, refuseIf, orElse, verdictOf}
+use Rattle.model.specs.Model.{seconds, jobsOf, periodsOf, refuseIf, orElse, verdictOf}
+use Rattle.model.specs.Testing.{allows}
 
 -- 13 for the job numbered k, where its period is not allowed.
 unfoldable pub judgePeriod : Job → Seconds → Seconds → ℕ → Verdict

@@ -13,7 +13,8 @@ use borrow.Author.Tests.{ltb-true, eqb-true, eqb-false, lt-ltb, eq-eqb}
 use Rattle.model.specs.declared.Seconds.{Seconds}
 use Rattle.model.specs.declared.Job.{Job}
 use Rattle.model.specs.declared.Profile.{Profile}
-use Rattle.model.specs.Model.{seconds, jobsOf, periodsOf, allows, PermittedAfter}
+use Rattle.model.specs.Model.{seconds, jobsOf, periodsOf, PermittedAfter}
+use Rattle.model.specs.Testing.{allows}
 use Rattle.model.proofs.Allowing.{both-true, allowed, allowed-back}
 use Rattle.table_row.specs.Table.{rowsIn, startAt, periodsAt, needAt, lossAt}
 use Rattle.table_check.specs.Formed.{GoodAfter, GoodRow}

@@ -13,7 +13,8 @@ use borrow.Author.Tests.{not-true, not-false, ltb-true, lt-ltb, ne-eqb, eqb-fals
 use Rattle.model.specs.declared.Seconds.{Seconds}
 use Rattle.model.specs.declared.PagesPerHour.{PagesPerHour}
 use Rattle.model.specs.declared.Profile.{Profile}
-use Rattle.model.specs.Model.{seconds, pagesPerHour, noJob, jobsOf, periodsOf, load, allows, Permitted, need, jobLoss, loss}
+use Rattle.model.specs.Model.{seconds, pagesPerHour, noJob, jobsOf, periodsOf, load, Permitted, need, jobLoss, loss}
+use Rattle.model.specs.Testing.{allows}
 use Rattle.model.specs.Valid.{Valid}
 use Rattle.model.proofs.Allowing.{both-true, allowed, allowed-back}
 use Rattle.step.specs.Step.{carried, needAt as needFrom}

@@ -1,7 +1,7 @@
 -- `model::allowed` meets its contract: each `return` is one case of `allows`.
 -- Assumes nothing.
 use borrow.Author.Tests.{lt-ltb, le-ltb}
-use Rattle.model.specs.Model.{allows}
+use Rattle.model.specs.Testing.{allows}
 use borrow.Author.Needs.{needs}
 use Rattle.model.proofs.allowed.Statement.{statement}
 use Rattle.model.proofs.allowed.Tie as tie

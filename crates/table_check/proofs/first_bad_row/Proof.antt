@@ -9,7 +9,8 @@ use borrow.Author.Needs.{needs}
 use borrow.Author.Tests.{not-true, not-false}
 use Rattle.model.specs.declared.Seconds.{Seconds}
 use Rattle.model.specs.declared.Job.{Job}
-use Rattle.model.specs.Model.{seconds, pagesPerHour, noJob, allows}
+use Rattle.model.specs.Model.{seconds, pagesPerHour, noJob}
+use Rattle.model.specs.Testing.{allows}
 use Rattle.model.specs.Valid.{Valid}
 use Rattle.model.proofs.Validity.{job-valid-at}
 use Rattle.model.proofs.Allowing.{allowed}
