@@ -1,6 +1,7 @@
 pub mod Allowing
 pub mod Bounds
 pub mod Entries
+pub mod Lists
 pub mod Numbers
 pub mod OneOutcome
 pub mod ProfileFirst

@@ -2,7 +2,7 @@
 -- definitions; a comment that renders a rule ends in the rule's place there. Laws about them are in proofs/, which no contract
 -- cites publicly. Need, loss and permitted periods are meant for the jobs of a valid profile. Assumes nothing.
 use mathlib.Core.Path.{_≡_}
-use mathlib.Core.List.{List, [], _∷_, _++_}
+use mathlib.Core.List.{List, [], _∷_, _++_, List·Memᴰ}
 use mathlib.Core.Bool.{Bool, true, false, cond, _||_}
 use Prim.Native.Nat.{ℕ, zero, suc, _+_, _*_, _-_, _/_, _%_, _^_, _≤_}
 use lib.ListN.{length, getD, drop, replicate}
@@ -32,6 +32,11 @@ noJob = record { lo = seconds 0; hi = seconds 0; «data» = 0; metadata = 0; sti
 unfoldable pub entries : {A : Type 0} → A → List A → ℕ → ℕ → List A
 entries d xs i zero = []
 entries d xs i (suc k) = getD xs i d ∷ entries d xs (i + 1) k
+
+-- Each entry of a list stands to every later one as R says.
+abbrev pub Rising : {A : Type 0} → (A → A → Type 0) → List A → Type 0
+Rising R [] = Unit {0}
+Rising {A} R (x ∷ xs) = ((y : A) → List·Memᴰ y xs → R x y) × Rising R xs
 
 -- Eight places: a list, and `d` beyond it (Packing; Quantities, on choosing).
 abbrev pub padded : {A : Type 0} → A → List A → List A

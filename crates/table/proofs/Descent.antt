@@ -17,20 +17,20 @@ use Rattle.walk.specs.Walk.{walk, start}
 use Rattle.choose_offer.specs.Found.{Found, nothing, found, pick}
 use Rattle.choose_walk.proofs.Fold.{BestOrNone, walk-best}
 use Rattle.choose.proofs.OneOutcome.{one-best}
-use Rattle.table.specs.Table.{Rising, TableOf}
+use Rattle.table.specs.Table.{StartsRise, TableOf}
 use Rattle.table.specs.Descent.{upTo, descent, rowsBelow, allBudgets}
-use Rattle.table.proofs.Rising.{rising-one, rising-snoc}
+use Rattle.table.proofs.Rising.{rows-one-list, rising-snoc}
 use Rattle.table.proofs.Best.{best-between, some-best, need-small}
 
 -- the rows of the budgets below a limit
 pub record TableBelow (js : List Job) (limit : ℕ) (rows : List (List Seconds)) : Type 0 where
   pub some-budget : (ts : List Seconds) → List·Memᴰ ts rows → (b : PagesPerHour) × (b .0 < limit) × Best js b ts
   pub every-budget : (b : PagesPerHour) (ts : List Seconds) → b .0 < limit → Best js b ts → List·Memᴰ ts rows
-  pub rising : Rising js rows
+  pub rising : StartsRise js rows
 
 module _ {js : List Job} where
   pub below-one : {limit : ℕ} {xs ys : List (List Seconds)} → TableBelow js limit xs → TableBelow js limit ys → xs ≡ ys
-  below-one {limit} {xs} {ys} a b = rising-one js xs ys (a .rising) (b .rising) (into a b) (into b a)
+  below-one {limit} {xs} {ys} a b = rows-one-list js xs ys (a .rising) (b .rising) (into a b) (into b a)
     where
       into : {us ws : List (List Seconds)} → TableBelow js limit us → TableBelow js limit ws → (ts : List Seconds) → List·Memᴰ ts us → List·Memᴰ ts ws
       into p q ts m =

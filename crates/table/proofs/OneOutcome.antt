@@ -10,17 +10,18 @@ use Rattle.model.specs.declared.Job.{Job}
 use Rattle.model.specs.declared.Profile.{Profile}
 use Rattle.model.specs.declared.Counted.{Counted}
 use Rattle.model.specs.Model.{jobsOf}
+use Rattle.model.proofs.Lists.{Holds}
 use Rattle.model.proofs.RowsPut.{puts-rows-one}
 use Rattle.table.specs.Table.{TableOf, tableBytes, Built}
-use Rattle.table.proofs.Rising.{Within, rising-one}
+use Rattle.table.proofs.Rising.{rows-one-list}
 use denote.Ref.{now}
 use Rattle.table.proofs.build_table.Reads as build-table-contract
 
 -- Jobs have one table.
 pub table-one : (js : List Job) {xs ys : List (List Seconds)} → TableOf js xs → TableOf js ys → xs ≡ ys
-table-one js {xs} {ys} a b = rising-one js xs ys (a .rising) (b .rising) (into a b) (into b a)
+table-one js {xs} {ys} a b = rows-one-list js xs ys (a .rising) (b .rising) (into a b) (into b a)
   where
-    into : {us ws : List (List Seconds)} → TableOf js us → TableOf js ws → Within us ws
+    into : {us ws : List (List Seconds)} → TableOf js us → TableOf js ws → Holds us ws
     into p q ts m =
         let s = p .some-budget ts m in
         q .every-budget (s .0) ts (s .1) (s .2)

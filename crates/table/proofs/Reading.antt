@@ -22,20 +22,20 @@ use Rattle.model.proofs.Validity.{sound-valid}
 use Rattle.choose.specs.declared.Choice.{Choice}
 use Rattle.choose.specs.Choice.{answered, LeastBudget, Outcome, given, none-permitted, none-fit, Chosen}
 use Rattle.choose.proofs.OneOutcome.{one-outcome}
-use Rattle.table.specs.Table.{Rising, TableOf, Built}
+use Rattle.table.specs.Table.{StartsRise, TableOf, Built}
 use Rattle.table.specs.Reading.{lastRow, readTable}
 use Rattle.table.proofs.Best.{best-at-need, needs-follow, some-best}
 use Rattle.table.proofs.Descent.{no-rows}
 
 -- the row with the greatest need that fits is the one read
-last-row : (js : List Job) (b : PagesPerHour) (ts : List Seconds) (rows : List (List Seconds)) (us : List Seconds) → Rising js (ts ∷ rows) → List·Memᴰ us (ts ∷ rows) → need js us .0 ≤ b .0
+last-row : (js : List Job) (b : PagesPerHour) (ts : List Seconds) (rows : List (List Seconds)) (us : List Seconds) → StartsRise js (ts ∷ rows) → List·Memᴰ us (ts ∷ rows) → need js us .0 ≤ b .0
     → ((xs : List Seconds) → List·Memᴰ xs (ts ∷ rows) → need js xs .0 ≤ b .0 → need js xs .0 ≤ need js us .0) → lastRow js b ts rows ≡ us
 unfolding lastRow
 last-row js b ts [] us rising m fits greatest = sym (List·Memᴰ·eq-of-singleton m)
 last-row js b ts (x ∷ rows) us rising m fits greatest = go (decLe (need js x .0) (b .0)) (last-row js b x rows us) (List·Memᴰ·cases-cons m)
   where
     go : Dec (need js x .0 ≤ b .0)
-        → (Rising js (x ∷ rows) → List·Memᴰ us (x ∷ rows) → need js us .0 ≤ b .0 → ((xs : List Seconds) → List·Memᴰ xs (x ∷ rows) → need js xs .0 ≤ b .0 → need js xs .0 ≤ need js us .0) → lastRow js b x rows ≡ us)
+        → (StartsRise js (x ∷ rows) → List·Memᴰ us (x ∷ rows) → need js us .0 ≤ b .0 → ((xs : List Seconds) → List·Memᴰ xs (x ∷ rows) → need js xs .0 ≤ b .0 → need js xs .0 ≤ need js us .0) → lastRow js b x rows ≡ us)
         → (us ≡ ts) ⊎ List·Memᴰ us (x ∷ rows) → lastRow js b ts (x ∷ rows) ≡ us
     go (yes le) later (inl e) = absurd (omega (arith, greatest x (List·Memᴰ·tail (List·Memᴰ·head refl)) le, rising .0 x (List·Memᴰ·head refl), ap (λ (l : List Seconds). need js l .0) e))
     go (yes le) later (inr n) = rw (le-leb (need js x .0) (b .0) le) (later (rising .1) n fits (λ xs k. greatest xs (List·Memᴰ·tail k)))

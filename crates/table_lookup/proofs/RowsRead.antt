@@ -18,7 +18,7 @@ use Rattle.codec.specs.Layout.{byteWidths}
 use Rattle.codec.specs.Fit.{Within, Bytes}
 use Rattle.codec.proofs.Packing.{recut-back, length-recut}
 use Rattle.codec.proofs.Bytes.{within-split}
-use Rattle.table.specs.Table.{Rising, tableBytes}
+use Rattle.table.specs.Table.{StartsRise, tableBytes}
 use Rattle.table_row.specs.Table.{tableWidths, tableRow, rowsIn, rowFields, startAt, periodsAt}
 use Rattle.table_row.proofs.Words.{numbers-again}
 use Rattle.table_check.specs.Formed.{GoodAlone, WellFormed}
@@ -118,7 +118,7 @@ module _ (p : Profile) (bytes : List ℕ) where
       (r .0, omega (arith, r .2), r .3)
 
   module _ (w : WellFormed p bytes) where
-    rising-from : (m k : ℕ) → k + m ≤ rowsIn bytes → Rising (jobsOf p) (rowsFrom p bytes k m)
+    rising-from : (m k : ℕ) → k + m ≤ rowsIn bytes → StartsRise (jobsOf p) (rowsFrom p bytes k m)
     unfolding rowsFrom
     rising-from zero k room = tt
     rising-from (suc m) k room = (after, rising-from m (k + 1) (omega arith))
@@ -130,7 +130,7 @@ module _ (p : Profile) (bytes : List ℕ) where
             let here : k < rowsIn bytes = omega arith in
             omega (arith, w .rows k here .alone .start, w .rows (r .0) there .alone .start, starts-climb p bytes w (r .0) k (omega (arith, r .1)) there, ap (λ (l : List Seconds). need (jobsOf p) l .0) (r .3))
 
-    pub read-rising : Rising (jobsOf p) (rowsRead p bytes)
+    pub read-rising : StartsRise (jobsOf p) (rowsRead p bytes)
     unfolding rowsRead
     read-rising = rising-from (rowsIn bytes) 0 (omega arith)
 

@@ -10,9 +10,10 @@ use Rattle.model.specs.declared.Seconds.{Seconds}
 use Rattle.model.specs.declared.Job.{Job}
 use Rattle.model.specs.Model.{seconds, Allowed, PermittedAfter, roundUp}
 use Rattle.model.specs.Valid.{ValidJobs}
+use Rattle.model.proofs.Lists.{in-flat, flat-has}
 use Rattle.walk.specs.Chains.{climb, risingFrom, multiples, chainsBy, chains}
 use Rattle.model.proofs.Rounding.{round-up-le, round-up-above, multiple-is, split-product}
-use Rattle.walk.proofs.Sorted.{in-flat, flat-has, Sorted, Rising, sorted-flat}
+use Rattle.walk.proofs.Sorted.{Sorted, RisingPeriods, sorted-flat}
 
 climb-in : (p t k : ℕ) {u : Seconds} → List·Memᴰ u (climb p t k) → (i : ℕ) × (i < k) × (u .0 ≡ t + i * p)
 unfolding climb
@@ -31,7 +32,7 @@ climb-has p t zero i h e = absurd (omega arith)
 climb-has p t (suc k) zero {u} h e = let d : u .0 ≡ t = omega arith in List·Memᴰ·head (ap seconds d)
 climb-has p t (suc k) (suc i) h e = List·Memᴰ·tail (climb-has p (t + p) k i (omega arith) (omega arith))
 
-climb-rising : (p t k : ℕ) → 1 ≤ p → Rising (climb p t k)
+climb-rising : (p t k : ℕ) → 1 ≤ p → RisingPeriods (climb p t k)
 unfolding climb
 climb-rising p t zero h = tt
 climb-rising p t (suc k) h = (λ u m. let r = climb-in p (t + p) k m in omega arith, climb-rising p (t + p) k h)
@@ -114,12 +115,12 @@ module _ {periods : Seconds → Job → List Seconds} (law : ListsAllowed period
       let next : 1 ≤ t .0 = omega arith in
       flat-has (λ (u : Seconds). map (λ us. u ∷ us) (chainsBy periods u js)) (periods before j) (law .all pos (h .0)) (Memᴰ·map (λ (us : List Seconds). t ∷ us) (chains-all js ts (v .1) next (h .1)))
 
-rising-at : (hi p t : ℕ) → Rising (climb p t ((hi + p - t) / p))
+rising-at : (hi p t : ℕ) → RisingPeriods (climb p t ((hi + p - t) / p))
 unfolding climb
 rising-at hi zero t = rw (div-zero (hi + 0 - t)) tt
 rising-at hi (suc p) t = climb-rising (suc p) t ((hi + suc p - t) / suc p) (omega arith)
 
-pub multiples-rising : (before : Seconds) (j : Job) → Rising (multiples before j)
+pub multiples-rising : (before : Seconds) (j : Job) → RisingPeriods (multiples before j)
 unfolding multiples risingFrom
 multiples-rising before j = rising-at (j .hi .0) (before .0) (roundUp (j .lo .0) (before .0) * before .0)
 

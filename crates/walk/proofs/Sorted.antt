@@ -1,32 +1,13 @@
 -- Lists of lists of periods, strictly sorted: no list comes after a later one, and none is one of the later ones.
 -- Assumes nothing.
-use mathlib.Core.Path.{_≡_, refl, ap, subst}
-use mathlib.Core.Logic.{_⊎_, inl, inr, ⊎-elim}
-use mathlib.Core.List.{List, [], _∷_, _++_, map, flatMap, head-eq-of-cons-eq, tail-eq-of-cons-eq, List·Memᴰ, List·Memᴰ·head, List·Memᴰ·tail, List·Memᴰ·not-nil, List·Memᴰ·cases-cons, Memᴰ·append-left, Memᴰ·append-right, List·Memᴰ·append-cases, Memᴰ·of-map}
+use mathlib.Core.Path.{_≡_, ap, subst}
+use mathlib.Core.List.{List, [], _∷_, map, flatMap, head-eq-of-cons-eq, tail-eq-of-cons-eq, List·Memᴰ, Memᴰ·of-map}
 use Prim.Native.Nat.{_<_}
 use native.Mathlib.Omega.{arith}
 use native.Mathlib.Nat.{le-refl}
 use Rattle.model.specs.declared.Seconds.{Seconds}
-use Rattle.model.specs.Model.{NotAfter}
-
--- what stands in a joined list stands in one of its parts, and the other way round
-pub in-flat : {A B : Type 0} (f : A → List B) {y : B} (xs : List A) → List·Memᴰ y (flatMap f xs) → (x : A) × List·Memᴰ x xs × List·Memᴰ y (f x)
-unfolding flatMap
-in-flat f [] m = absurd (List·Memᴰ·not-nil m)
-in-flat {A} {B} f {y} (x ∷ xs) m = go (λ n. in-flat f xs n) (List·Memᴰ·append-cases (f x) m)
-  where
-    go : (List·Memᴰ y (flatMap f xs) → (a : A) × List·Memᴰ a xs × List·Memᴰ y (f a)) →
-        List·Memᴰ y (f x) ⊎ List·Memᴰ y (flatMap f xs) → (a : A) × List·Memᴰ a (x ∷ xs) × List·Memᴰ y (f a)
-    go below (inl n) = (x, List·Memᴰ·head refl, n)
-    go below (inr n) = let r = below n in (r .0, List·Memᴰ·tail (r .1), r .2)
-
-pub flat-has : {A B : Type 0} (f : A → List B) {y : B} {x : A} (xs : List A) → List·Memᴰ x xs → List·Memᴰ y (f x) → List·Memᴰ y (flatMap f xs)
-unfolding flatMap
-flat-has f [] m n = absurd (List·Memᴰ·not-nil m)
-flat-has {A} {B} f {y} {x} (a ∷ xs) m n = ⊎-elim here (λ k. Memᴰ·append-right (f a) (flat-has f xs k n)) (List·Memᴰ·cases-cons m)
-  where
-    here : x ≡ a → List·Memᴰ y (f a ++ flatMap f xs)
-    here e = Memᴰ·append-left (flatMap f xs) (subst (λ (b : A). List·Memᴰ y (f b)) e n)
+use Rattle.model.specs.Model.{Rising, NotAfter}
+use Rattle.model.proofs.Lists.{in-flat, rising-append}
 
 -- no list comes after itself
 pub not-after-self : (ts : List Seconds) → NotAfter ts ts
@@ -39,13 +20,11 @@ pub record Earlier (ts us : List Seconds) : Type 0 where
   pub differ : ts ≡ us → ⊥
 
 abbrev pub Sorted : List (List Seconds) → Type 0
-Sorted [] = Unit {0}
-Sorted (x ∷ xs) = ((y : List Seconds) → List·Memᴰ y xs → Earlier x y) × Sorted xs
+Sorted xs = Rising Earlier xs
 
 -- strictly rising numbers
-abbrev pub Rising : List Seconds → Type 0
-Rising [] = Unit {0}
-Rising (t ∷ ts) = ((u : Seconds) → List·Memᴰ u ts → t .0 < u .0) × Rising ts
+abbrev pub RisingPeriods : List Seconds → Type 0
+RisingPeriods ts = Rising (λ (t u : Seconds). t .0 < u .0) ts
 
 earlier-head : {t u : Seconds} (ts us : List Seconds) → t .0 < u .0 → Earlier (t ∷ ts) (u ∷ us)
 earlier-head {t} {u} ts us h = record {
@@ -59,13 +38,6 @@ earlier-head {t} {u} ts us h = record {
 earlier-tail : (t : Seconds) {ts us : List Seconds} → Earlier ts us → Earlier (t ∷ ts) (t ∷ us)
 earlier-tail t h = record { not-after = (le-refl _, λ e. h .not-after); differ = λ e. h .differ (tail-eq-of-cons-eq e) }
 
-sorted-append : (xs ys : List (List Seconds)) → Sorted xs → Sorted ys → ((x y : List Seconds) → List·Memᴰ x xs → List·Memᴰ y ys → Earlier x y) → Sorted (xs ++ ys)
-sorted-append [] ys h k across = k
-sorted-append (x ∷ xs) ys h k across = (
-  λ y m. ⊎-elim (h .0 y) (λ n. across x y (List·Memᴰ·head refl) n) (List·Memᴰ·append-cases xs m),
-  sorted-append xs ys (h .1) k (λ a b m n. across a b (List·Memᴰ·tail m) n),
-)
-
 sorted-map : (t : Seconds) (xs : List (List Seconds)) → Sorted xs → Sorted (map (λ ts. t ∷ ts) xs)
 sorted-map t [] h = tt
 sorted-map t (x ∷ xs) h = (later, sorted-map t xs (h .1))
@@ -76,10 +48,10 @@ sorted-map t (x ∷ xs) h = (later, sorted-map t xs (h .1))
         subst (λ (l : List Seconds). Earlier (t ∷ x) l) (r .2) (earlier-tail t (h .0 (r .0) (r .1)))
 
 -- rising first periods, each before a sorted list of lists
-pub sorted-flat : (f : Seconds → List (List Seconds)) → ((t : Seconds) → Sorted (f t)) → (ts : List Seconds) → Rising ts → Sorted (flatMap (λ t. map (λ us. t ∷ us) (f t)) ts)
+pub sorted-flat : (f : Seconds → List (List Seconds)) → ((t : Seconds) → Sorted (f t)) → (ts : List Seconds) → RisingPeriods ts → Sorted (flatMap (λ t. map (λ us. t ∷ us) (f t)) ts)
 unfolding flatMap
 sorted-flat f each [] h = tt
-sorted-flat f each (t ∷ ts) h = sorted-append _ _ (sorted-map t (f t) (each t)) (sorted-flat f each ts (h .1)) across
+sorted-flat f each (t ∷ ts) h = rising-append Earlier _ _ (sorted-map t (f t) (each t)) (sorted-flat f each ts (h .1)) across
   where
     across : (x y : List Seconds) → List·Memᴰ x (map (λ us. t ∷ us) (f t)) → List·Memᴰ y (flatMap (λ u. map (λ us. u ∷ us) (f u)) ts) → Earlier x y
     across x y m n =

@@ -6,6 +6,7 @@ use mathlib.Core.List.{List, [], _∷_, List·Memᴰ, List·Memᴰ·head, List·
 use Prim.Native.Nat.{ℕ, zero, suc, _+_, _*_, _-_, _/_, _≤_, _<_}
 use native.Mathlib.Omega.{arith}
 use native.Mathlib.Nat.{le-div-iff-mul-le, add-div-right, div-eq-of-lt, div-zero, add-mul}
+use Rattle.model.specs.Model.{Rising}
 use Rattle.zone_walk.specs.Listing.{climb, upTo}
 
 climb-in : (p t k : ℕ) {u : ℕ} → List·Memᴰ u (climb p t k) → (i : ℕ) × (i < k) × (u ≡ t + i * p)
@@ -27,8 +28,7 @@ climb-has p t (suc k) (suc i) h e = List·Memᴰ·tail (climb-has p (t + p) k i 
 
 -- each number is below all that follow it
 abbrev pub RisingNumbers : List ℕ → Type 0
-RisingNumbers [] = Unit {0}
-RisingNumbers (m ∷ ms) = ((u : ℕ) → List·Memᴰ u ms → m < u) × RisingNumbers ms
+RisingNumbers ms = Rising (λ (a b : ℕ). a < b) ms
 
 climb-rising : (p t k : ℕ) → 1 ≤ p → RisingNumbers (climb p t k)
 unfolding climb

@@ -1,6 +1,5 @@
 pub mod Bound
 pub mod Coming
-pub mod Flat
 pub mod Listing
 pub mod OneOutcome
 pub mod Outcome

@@ -16,14 +16,14 @@ use Rattle.model.specs.declared.Job.{Job}
 use Rattle.model.specs.Model.{seconds, roundUp}
 use Rattle.model.specs.Valid.{ValidJobs}
 use Rattle.model.proofs.Rounding.{round-up-le, round-up-some}
+use Rattle.model.proofs.Lists.{in-flat, flat-has, rising-append}
 use Rattle.zone_walk.specs.Zone.{Zone}
-use Rattle.zones.specs.Zones.{MultiplesAfter, InIntervals, IsZone, Before, Rising, ZonesOf}
+use Rattle.zones.specs.Zones.{MultiplesAfter, InIntervals, IsZone, Before, ZonesRise, ZonesOf}
 use Rattle.zone_walk.specs.Listing.{Span, spanOf, upTo, firstMultiplier, leastFor, greatestFor, unlessEmpty, zonesBelow, zonesIn, zonesFor}
 use Rattle.zone_walk.proofs.Climbing.{RisingNumbers, up-to-rising, up-to-in, up-to-has}
-use Rattle.zones.proofs.Flat.{in-flat, flat-has}
 use Rattle.zones.specs.Lies.{InRange}
 use Rattle.zones.proofs.Ranges.{narrowed, narrows, in-nonempty, in-open}
-use Rattle.zones.proofs.Rising.{before-after, rising-append}
+use Rattle.zones.proofs.Rising.{before-after}
 
 -- a zone that begins with `chosen` and has its range within least .. greatest
 pub record Below (js : List Job) (chosen : List ℕ) (least greatest a : ℕ) (z : Zone) : Type 0 where
@@ -128,10 +128,10 @@ under-starts ss s chosen least greatest m i =
     (b .0, b .1 ∙ append-snoc chosen m (b .0))
 
 -- parts for rising multipliers, each part rising, make a rising list
-rising-parts : (ss : List Span) (s : Span) (chosen : List ℕ) (least greatest : ℕ) → ((m : ℕ) → Rising (under ss s chosen least greatest m)) → (ms : List ℕ) → RisingNumbers ms → Rising (flatMap (under ss s chosen least greatest) ms)
+rising-parts : (ss : List Span) (s : Span) (chosen : List ℕ) (least greatest : ℕ) → ((m : ℕ) → ZonesRise (under ss s chosen least greatest m)) → (ms : List ℕ) → RisingNumbers ms → ZonesRise (flatMap (under ss s chosen least greatest) ms)
 unfolding flatMap
 rising-parts ss s chosen least greatest each [] h = tt
-rising-parts ss s chosen least greatest each (m ∷ ms) h = rising-append (under ss s chosen least greatest m) _ (each m) (rising-parts ss s chosen least greatest each ms (h .1)) across
+rising-parts ss s chosen least greatest each (m ∷ ms) h = rising-append _ (under ss s chosen least greatest m) _ (each m) (rising-parts ss s chosen least greatest each ms (h .1)) across
   where
     across : (y z : Zone) → List·Memᴰ y (under ss s chosen least greatest m) → List·Memᴰ z (flatMap (under ss s chosen least greatest) ms) → Before (y .multipliers) (z .multipliers)
     across y z i k =
@@ -140,12 +140,12 @@ rising-parts ss s chosen least greatest each (m ∷ ms) h = rising-append (under
         let b = under-starts ss s chosen least greatest (r .0) (r .2) in
         rw (a .1, b .1) (before-after chosen (a .0) (b .0) (h .0 (r .0) (r .1)))
 
-rising-open : (empty : Bool) (zs : List Zone) → Rising zs → Rising (unlessEmpty empty zs)
+rising-open : (empty : Bool) (zs : List Zone) → ZonesRise zs → ZonesRise (unlessEmpty empty zs)
 unfolding unlessEmpty
 rising-open true zs h = tt
 rising-open false zs h = h
 
-below-rising : (ss : List Span) (chosen : List ℕ) (least greatest a : ℕ) → Rising (zonesBelow ss chosen least greatest a)
+below-rising : (ss : List Span) (chosen : List ℕ) (least greatest a : ℕ) → ZonesRise (zonesBelow ss chosen least greatest a)
 unfolding zonesBelow
 below-rising [] chosen least greatest a = (λ y i. absurd (List·Memᴰ·not-nil i), tt)
 below-rising (s ∷ ss) chosen least greatest a =
@@ -214,7 +214,7 @@ zones-all js h v z a =
     let r = zones-have js v (f .0) (z .least .0) (f .2) (rw (f .1) at (a .range (z .least .0) .0 (le-refl _, a .some))) in
     Memᴰ·cast (same-zone js a (zones-only js v (r .0) (r .1)) (f .1 ∙ sym (r .2))) (r .1)
 
-zones-rising : (js : List Job) → Rising (zonesFor js)
+zones-rising : (js : List Job) → ZonesRise (zonesFor js)
 unfolding zonesIn
 zones-rising [] = tt
 zones-rising (j ∷ js) = below-rising (map spanOf js) (1 ∷ []) (j .lo .0) (j .hi .0) 1

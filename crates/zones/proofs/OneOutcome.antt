@@ -12,13 +12,13 @@ use Rattle.model.specs.Model.{jobsOf}
 use Rattle.model.proofs.RowsPut.{puts-rows-one}
 use Rattle.zone_walk.specs.Zone.{Zone}
 use Rattle.zones.specs.Zones.{ZonesOf, rowsOf, Listed}
-use Rattle.zones.proofs.Rising.{rising-one}
+use Rattle.zones.proofs.Rising.{zones-one-list}
 use denote.Ref.{now}
 use Rattle.zones.proofs.list_zones.Reads as list-zones-contract
 
 -- Jobs have one list of zones.
 pub zones-one : (js : List Job) {ys zs : List Zone} → ZonesOf js ys → ZonesOf js zs → ys ≡ zs
-zones-one js {ys} {zs} a b = rising-one ys zs (a .rising) (b .rising) (λ z i. b .all z (a .only z i)) (λ z i. a .all z (b .only z i))
+zones-one js {ys} {zs} a b = zones-one-list ys zs (a .rising) (b .rising) (λ z i. b .all z (a .only z i)) (λ z i. a .all z (b .only z i))
 
 pub listed-one : (p : Profile) (old : List ℕ) {r s : Counted} {new other-new : List ℕ} → Listed p old r new → Listed p old s other-new → (r ≡ s) × (new ≡ other-new)
 listed-one p old one other =

@@ -10,7 +10,7 @@ use Rattle.model.specs.declared.Job.{Job}
 use Rattle.model.specs.declared.Profile.{Profile}
 use Rattle.model.specs.declared.Counted.{Counted}
 use Rattle.model.specs.declared.Verdict.the-variants.{Sound}
-use Rattle.model.specs.Model.{entries, jobsOf, Permitted, verdictOf, rowSize, PutsRows}
+use Rattle.model.specs.Model.{entries, Rising, jobsOf, Permitted, verdictOf, rowSize, PutsRows}
 use Rattle.codec.specs.Layout.{byteWidths}
 use Rattle.codec.specs.Packing.{recut}
 use Rattle.zone_walk.specs.Zone.{Zone}
@@ -42,15 +42,14 @@ Before (a ∷ more) [] = ⊥
 Before (a ∷ more) (b ∷ others) = (a ≤ b) × (a ≡ b → Before more others)
 
 -- Each zone stands before every later one.
-abbrev pub Rising : List Zone → Type 0
-Rising [] = Unit {0}
-Rising (z ∷ zs) = ((y : Zone) → List·Memᴰ y zs → Before (z .multipliers) (y .multipliers)) × Rising zs
+abbrev pub ZonesRise : List Zone → Type 0
+ZonesRise zs = Rising (λ (z y : Zone). Before (z .multipliers) (y .multipliers)) zs
 
 -- All zones of these jobs and nothing else, in their order, so each once (Zones).
 pub record ZonesOf (js : List Job) (zs : List Zone) : Type 0 where
   pub only : (z : Zone) → List·Memᴰ z zs → IsZone js z
   pub all : (z : Zone) → IsZone js z → List·Memᴰ z zs
-  pub rising : Rising zs
+  pub rising : ZonesRise zs
 
 -- A zone row's fields: least, greatest, a2 to a8, spare (Packing).
 abbrev pub zoneWidths : List ℕ
