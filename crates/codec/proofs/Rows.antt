@@ -43,10 +43,6 @@ row-of-words ws fs h l e hh hl =
     ∙ unpack-append (byteWidths 8) (byteWidths 8) (h * 2 ^ 64 + l) small
     ∙ ap₂ (λ (a b : ℕ). unpack (byteWidths 8) a ++ unpack (byteWidths 8) b) (high h 64 hl) (low h 64 hl)
 
-pub length-row : (h l : ℕ) → length (rowBytes h l) ≡ rowSize
-unfolding rowBytes
-length-row h l = length-append (unpack (byteWidths 8) h) (unpack (byteWidths 8) l) ∙ ap₂ _+_ (length-unpack (byteWidths 8) h) (length-unpack (byteWidths 8) l)
-
 -- one word and then the next
 pub row-put : (old mid new : List ℕ) (k h l : ℕ) → k < length old / rowSize → length mid ≡ length old
     → mid ≡ take (rowSize * k) old ++ (unpack (byteWidths 8) h ++ drop (rowSize * k + 8) old)

@@ -7,6 +7,7 @@ use Rattle.model.proofs.number.Reads as number-contract
 use Rattle.model.proofs.detail.Reads as detail-contract
 use Rattle.model.proofs.judge_interval_and_stiffness.Reads as judge-interval-and-stiffness-contract
 use Rattle.model.proofs.judge.Reads as judge-contract
+use Rattle.model.proofs.judge_count.Reads as judge-count-contract
 
 pub number-one-outcome : (κs : _) (a : _) (r s : ℕ) (e e′ : _) → number-contract.Post κs a r e → number-contract.Post κs a s e′ → r ≡ s
 number-one-outcome κs a r s e e′ one other = one ∙ sym other
@@ -19,3 +20,6 @@ judge-interval-and-stiffness-one-outcome κs a r s e e′ one other = one ∙ sy
 
 pub judge-one-outcome : (κs : _) (a : _) (r s : Verdict) (e e′ : _) → judge-contract.Post κs a r e → judge-contract.Post κs a s e′ → r ≡ s
 judge-one-outcome κs a r s e e′ one other = one ∙ sym other
+
+pub judge-count-one-outcome : (κs : _) (a : _) (r s : Verdict) (e e′ : _) → judge-count-contract.Post κs a r e → judge-count-contract.Post κs a s e′ → r ≡ s
+judge-count-one-outcome κs a r s e e′ one other = one ∙ sym other

@@ -4,7 +4,7 @@ use Prim.Native.Nat.{ℕ, suc, _+_, _*_, _-_, _/_, _%_, _≤_, _<_}
 use mathlib.Core.Path.{_≡_, _∙_, ap}
 use mathlib.Core.Logic.{_↔_}
 use native.Mathlib.Omega.{arith}
-use native.Mathlib.Nat.{le-refl, le-trans, le-div-iff-mul-le, div-lt-iff-lt-mul, div-add-mod', add-mul}
+use native.Mathlib.Nat.{le-refl, le-div-iff-mul-le, div-lt-iff-lt-mul, div-add-mod', add-mul}
 use Rattle.model.specs.Model.{roundUp}
 
 pub round-up-le : (a q : ℕ) {b : ℕ} → 1 ≤ b → (roundUp a b ≤ q) ↔ (a ≤ q * b)
@@ -25,9 +25,6 @@ round-up-le a q {b} h = (down, up)
 -- rounding up never goes below
 pub round-up-above : (a : ℕ) {b : ℕ} → 1 ≤ b → a ≤ roundUp a b * b
 round-up-above a {b} h = round-up-le a (roundUp a b) h .0 (le-refl _)
-
-pub round-up-mono : {a c b : ℕ} → 1 ≤ b → a ≤ c → roundUp a b ≤ roundUp c b
-round-up-mono {a} {c} {b} h k = round-up-le a (roundUp c b) h .1 (le-trans k (round-up-above c h))
 
 -- a multiple is its quotient times its divisor
 pub multiple-is : (t p : ℕ) → t % p ≡ 0 → t ≡ t / p * p

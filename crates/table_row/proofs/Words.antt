@@ -37,7 +37,7 @@ seconds-again [] = refl
 seconds-again (t ∷ ts) = ap (λ (l : List Seconds). t ∷ l) (seconds-again ts)
 
 -- the bytes of a row of eight periods
-pub row-of-eight : (start : ℕ) (ps : List ℕ) → length ps ≡ 8 → tableRow (pagesPerHour start) (map seconds ps) ≡ recut tableWidths (byteWidths rowSize) (start ∷ ps)
+row-of-eight : (start : ℕ) (ps : List ℕ) → length ps ≡ 8 → tableRow (pagesPerHour start) (map seconds ps) ≡ recut tableWidths (byteWidths rowSize) (start ∷ ps)
 unfolding tableRow
 row-of-eight start ps size =
     ap (λ (l : List ℕ). recut tableWidths (byteWidths rowSize) (start ∷ l)) (ap (map (λ t. t .0)) (entries-all (seconds 0) (map seconds ps) (length-map ps seconds ∙ size)) ∙ numbers-again ps)

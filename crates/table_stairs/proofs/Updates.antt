@@ -3,13 +3,11 @@
 use mathlib.Core.Path.{_≡_, refl}
 use mathlib.Core.Logic.{⊎-elim}
 use mathlib.Core.List.{List, [], _∷_, List·Memᴰ, List·Memᴰ·head, List·Memᴰ·tail, List·Memᴰ·not-nil, List·Memᴰ·cases-cons}
-use mathlib.Core.Bool.{Bool, true, false, not, cond, _&&_, _||_, and-false, or-true, false≢true}
+use mathlib.Core.Bool.{Bool, true, false, _&&_, _||_, and-false, or-true, false≢true}
 use Prim.Native.Nat.{ℕ, _≤_, _<_}
-use native.Mathlib.Omega.{arith}
-use native.Mathlib.Decide.{decLt}
 use native.Mathlib.Nat.{le-trans}
-use lib.ListN.{length, getD, take, length-take}
-use lib.Dec.{leb, ltb}
+use lib.ListN.{length, getD, take}
+use lib.Dec.{leb}
 use borrow.Author.Tests.{leb-true, le-leb, lt-leb, lt-ltb, le-ltb}
 use Rattle.model.specs.declared.Seconds.{Seconds}
 use Rattle.table_stairs.specs.Stairs.{Stair, stair, Stairs, covered, among, atMost, enter}
@@ -89,21 +87,6 @@ module _ (most : ℕ) (rows : List Stair) (bound : ℕ) where
   pub at-most-cut : most < length rows → atMost most rows bound ≡ record { rows = take most rows; bound = getD rows most (stair 0 0 []) .its-loss }
   unfolding atMost
   at-most-cut h = rw (lt-ltb most (length rows) h)
-
-  pub at-most-few : length (atMost most rows bound .rows) ≤ most
-  at-most-few = go (decLt most (length rows))
-    where
-      go : Dec (most < length rows) → length (atMost most rows bound .rows) ≤ most
-      go (yes more) = rw (at-most-cut more) (omega (arith, length-take most rows))
-      go (no few) = rw (at-most-all (omega arith)) (omega arith)
-
-pub enter-few : (most b q l : ℕ) (ts : List Seconds) (s : Stairs) → length (s .rows) ≤ most → length (enter most b q l ts s .rows) ≤ most
-unfolding enter
-enter-few most b q l ts s h = go (leb q b && (ltb l (s .bound) && not (covered q l (s .rows))))
-  where
-    go : (t : Bool) → length (cond t (atMost most (among q l ts (s .rows)) (s .bound)) s .rows) ≤ most
-    go true = at-most-few most (among q l ts (s .rows)) (s .bound)
-    go false = h
 
 -- which floors let the rows stand
 module _ (most b : ℕ) (s : Stairs) where
