@@ -36,12 +36,12 @@ pub fn may_win(
     requires { ⌜ floor < noPlan ⌝ }
     ensures { λ r. ⌜ (r ≡ false → WinsNothing (now (seconds .entry)) (now (rates .entry)) i n budget t written floor (now (best .entry))) ⌝ }
 {
-    let need_floor = step::need_of(written, t).0 + rates[8 + i];
-    if budget.0 < need_floor {
+    let need_floor = walk::need_floor(rates, i, t, written);
+    if budget.0 < need_floor.0 {
         return false;
     }
     if floor == best[LOSS] {
-        if best[NEED] <= need_floor as u64 {
+        if best[NEED] <= need_floor.0 as u64 {
             return false;
         }
     }

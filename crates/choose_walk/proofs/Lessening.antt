@@ -5,7 +5,7 @@ use mathlib.Core.List.{List, [], _∷_, _++_}
 use Prim.Native.Nat.{ℕ, _+_, _*_, _-_, _/_, _%_, _≤_, _<_, min, zero-le}
 use native.Mathlib.Omega.{arith}
 use native.Mathlib.Decide.{ℕ-discrete}
-use native.Mathlib.Nat.{le-refl, div-mul-le-self, mul-mod-left}
+use native.Mathlib.Nat.{le-refl, le-trans, le-div-iff-mul-le, div-mul-le-self, mul-mod-left}
 use lib.ListN.{getD}
 use borrow.Author.Tests.{eq-eqb, ne-eqb}
 use Rattle.model.specs.declared.Seconds.{Seconds}
@@ -15,18 +15,19 @@ use Rattle.model.specs.Model.{seconds, pagesPerHour, jobLoss}
 use Rattle.model.specs.Most.{mostNeed}
 use Rattle.step.specs.Step.{carried, needAt}
 use Rattle.step.proofs.Fits.{need-to}
+use Rattle.walk.specs.declared.Tries.{Tries}
 use Rattle.walk.specs.Walk.{needFloor, node, next, walkBy, walkDown, walkDownFrom}
 use Rattle.choose_walk.specs.Least.{none, least, lessNeed}
 use Rattle.walk.specs.Arrays.{Held}
-use Rattle.walk.specs.Steps.{Unreached, ReadyForCut}
+use Rattle.walk.specs.Steps.{triesHeld, Unreached, ReadyForCut}
 use Rattle.choose_walk.specs.Steps.{ReadyForNeed, noNeed, leastIn, Lessens, LessensNothing}
-use Rattle.model.proofs.Rounding.{multiple-is, split-product}
+use Rattle.model.proofs.Rounding.{round-up-above, multiple-is, split-product}
 use Rattle.walk.proofs.Floors.{multiple-above}
 use Rattle.walk.proofs.Falling.{down-lists}
 use Rattle.walk.proofs.Walk.{Keeps, walk-cut}
 use Rattle.walk.proofs.Loops.{down-opens, down-takes, down-ends}
 use Rattle.walk.proofs.Held.{held-open, held-none, held-next, held-valid}
-use Rattle.walk.proofs.Cuts.{need-floor-is, unreached, ready-need, need-floor-to, next-ready, next-written}
+use Rattle.walk.proofs.Cuts.{need-floor-is, unreached, ready-need, need-floor-to, ready-longest, next-ready}
 
 -- a need that is one, and one that is none
 pub some-least : (q : PagesPerHour) → (q .0 ≡ noNeed → ⊥) → leastIn q ≡ least (q .0)
@@ -67,10 +68,10 @@ module _ {spans rates : List ℕ} {i n : ℕ} {t : Seconds} {written : ℕ} (r :
   pub unreached-not-less : Unreached spans i n t → LessensNothing spans rates i n t written had
   unreached-not-less u runs weights js lost ts h = unreached down-lists lessNeed (leastIn had) js (node t written lost ts) (r .ready .from) h u
 
--- Before each turn: t is the multiple whose turn it is, and the walk from it down, begun with what is had, ends as the whole walk does.
-pub record Down (spans runs rates : List ℕ) (i n : ℕ) (step : Seconds) (written : ℕ) (had now : PagesPerHour) (t : ℕ) : Type 0 where
-  pub multiple : t % step .0 ≡ 0
-  pub below : t ≤ getD spans (8 + i) 0
+-- Before each turn: t is the period whose turn it is, and the walk from it down, begun with what is had, ends as the whole walk does.
+pub record Down (spans runs rates : List ℕ) (i n : ℕ) (step : Seconds) (written : ℕ) (had now : PagesPerHour) (t : Seconds) : Type 0 where
+  pub multiple : t .0 % step .0 ≡ 0
+  pub below : t .0 ≤ getD spans (8 + i) 0
   pub is : (weights : List ℕ) (j : Job) (js : List Job) (lost : ℕ) (ts : List Seconds) → Held spans runs rates weights i n (j ∷ js) →
       walkDownFrom lessNeed j js (node step written lost ts) t (leastIn now) ≡ walkDown lessNeed (j ∷ js) (node step written lost ts) (leastIn had)
 
@@ -84,73 +85,79 @@ module _ {spans runs rates : List ℕ} {i n : ℕ} {step : Seconds} {written : �
       let at : q .0 ≡ needAt written step = ap (λ (x : PagesPerHour). x .0) is in
       rw empty (less-need (needAt written step) lost ts had m small (rw (← at) smaller))
 
-  pub down-starts : (had : PagesPerHour) → Down spans runs rates i n step written had had (getD spans (8 + i) 0 / step .0 * step .0)
-  down-starts had = record { multiple = mul-mod-left _ _; below = div-mul-le-self _ _; is = opens }
-    where
-      opens : (weights : List ℕ) (j : Job) (js : List Job) (lost : ℕ) (ts : List Seconds) → Held spans runs rates weights i n (j ∷ js) →
-          walkDownFrom lessNeed j js (node step written lost ts) (getD spans (8 + i) 0 / step .0 * step .0) (leastIn had) ≡ walkDown lessNeed (j ∷ js) (node step written lost ts) (leastIn had)
-      opens weights j js lost ts h = rw (h .jobs .0 .longest) (sym (down-opens lessNeed j js (node step written lost ts) (leastIn had)))
+  -- the loop opens at the last period that may be tried
+  module _ {tries : Tries} (told : tries ≡ triesHeld spans i step) where
+    pub down-starts : (had : PagesPerHour) → Down spans runs rates i n step written had had (tries .last)
+    down-starts had = rw told (record { multiple = mul-mod-left _ _; below = div-mul-le-self _ _; is = opens })
+      where
+        opens : (weights : List ℕ) (j : Job) (js : List Job) (lost : ℕ) (ts : List Seconds) → Held spans runs rates weights i n (j ∷ js) →
+            walkDownFrom lessNeed j js (node step written lost ts) (triesHeld spans i step .last) (leastIn had) ≡ walkDown lessNeed (j ∷ js) (node step written lost ts) (leastIn had)
+        opens weights j js lost ts h = rw (h .jobs .0 .longest) (sym (down-opens lessNeed j js (node step written lost ts) (leastIn had)))
 
-  pub down-done : i < n → {had now : PagesPerHour} {t : ℕ} → Down spans runs rates i n step written had now t → t < getD spans i 0 → Lessens spans runs rates i n step written had now
-  down-done less {had} {now} {t} d past weights js lost ts h =
-      let o = held-open js less h in
-      let p = node step written lost ts in
-      let k : Held spans runs rates weights i n (o .job ∷ o .rest) = subst (Held spans runs rates weights i n) (o .is) h in
-      rw (o .is)
-      (sym (down-ends lessNeed (o .job) (o .rest) p t (leastIn now) (r .ready .from) (rw (o .holds .shortest) at past)) ∙ d .is weights (o .job) (o .rest) lost ts k)
+    -- and ends below the first
+    pub down-done : i < n → {had now : PagesPerHour} {t : Seconds} → Down spans runs rates i n step written had now t → t .0 < tries .first .0 → Lessens spans runs rates i n step written had now
+    down-done less {had} {now} {t} d past weights js lost ts h =
+        let o = held-open js less h in
+        let p = node step written lost ts in
+        let k : Held spans runs rates weights i n (o .job ∷ o .rest) = subst (Held spans runs rates weights i n) (o .is) h in
+        rw (o .is)
+        (sym (down-ends lessNeed (o .job) (o .rest) p t (leastIn now) (r .ready .from) (rw (told, o .holds .shortest) at past)) ∙ d .is weights (o .job) (o .rest) lost ts k)
 
--- A turn of the loop: what stands before it, and a multiple within the interval.
-pub record DownTurn (spans runs rates : List ℕ) (i n : ℕ) (step : Seconds) (written : ℕ) (had now : PagesPerHour) (t : ℕ) : Type 0 where
+-- A turn of the loop: what stands before it, and a period that may be tried.
+pub record DownTurn (spans runs rates : List ℕ) (i n : ℕ) (step : Seconds) (written : ℕ) (had now : PagesPerHour) (t : Seconds) : Type 0 where
   pub ready : ReadyForNeed spans runs rates i n step written
   pub less : i < n
   pub down : Down spans runs rates i n step written had now t
-  pub above : getD spans i 0 ≤ t
+  pub from : triesHeld spans i step .first .0 ≤ t .0
 
-module _ {spans runs rates : List ℕ} {i n : ℕ} {step : Seconds} {written : ℕ} {had now : PagesPerHour} {t : ℕ} (d : DownTurn spans runs rates i n step written had now t) where
-  pub down-room : step .0 ≤ t
+module _ {spans runs rates : List ℕ} {i n : ℕ} {step : Seconds} {written : ℕ} {had now : PagesPerHour} {t : Seconds} (d : DownTurn spans runs rates i n step written had now t) where
+  above : getD spans i 0 ≤ t .0
+  above = le-trans (round-up-above (getD spans i 0) (d .ready .ready .from)) (d .from)
+
+  pub down-to : t .0 ≤ 3600
+  down-to = le-trans (d .down .below) (ready-longest (d .ready .ready) (d .less))
+
+  pub down-room : step .0 ≤ t .0
   down-room =
       let o = held-open (d .ready .ready .js) (d .less) (d .ready .ready .held) in
       let v = o .holds .valid in
       let lo = o .holds .shortest in
-      let above = d .above in
-      multiple-above (step .0) t (omega arith) (d .down .multiple)
+      let on = above in
+      multiple-above (step .0) (t .0) (omega arith) (d .down .multiple)
 
-  -- the node below this multiple
-  pub down-next : ReadyForNeed spans runs rates (i + 1) n (seconds t) (carried written step (seconds t) (getD runs i 0))
-  down-next = record { weights = d .ready .weights; ready = next-ready (d .ready .ready) (d .less) t (d .down .multiple) (d .above) (d .down .below) zero-le }
+  -- the node below this period
+  pub down-next : ReadyForNeed spans runs rates (i + 1) n t (carried written step t (getD runs i 0))
+  down-next = record { weights = d .ready .weights; ready = next-ready (d .ready .ready) (d .less) t (d .down .multiple) above (d .down .below) zero-le }
 
-  pub down-cut : ReadyForCut spans rates (i + 1) n (seconds t) (carried written step (seconds t) (getD runs i 0))
-  down-cut = record { runs = runs; weights = d .ready .weights; ready = next-ready (d .ready .ready) (d .less) t (d .down .multiple) (d .above) (d .down .below) zero-le }
+  pub down-cut : ReadyForCut spans rates (i + 1) n t (carried written step t (getD runs i 0))
+  down-cut = record { runs = runs; weights = down-next .weights; ready = down-next .ready }
 
-  pub down-written : carried written step (seconds t) (getD runs i 0) ≤ mostNeed
-  down-written = next-written (d .ready .ready) (d .less) t (d .down .multiple) (d .above) (d .down .below)
-
-  -- one turn: what the walk below this multiple makes of what is had
-  pub down-turn : (m : PagesPerHour) → Lessens spans runs rates (i + 1) n (seconds t) (carried written step (seconds t) (getD runs i 0)) now m → Down spans runs rates i n step written had m (t - step .0)
+  -- one turn: what the walk below this period makes of what is had
+  pub down-turn : (m : PagesPerHour) → Lessens spans runs rates (i + 1) n t (carried written step t (getD runs i 0)) now m → Down spans runs rates i n step written had m (seconds (t .0 - step .0))
   down-turn m lessens =
       let below = d .down .below in
       record { multiple = multiple; below = omega arith; is = turned }
     where
-      multiple : (t - step .0) % step .0 ≡ 0
+      multiple : (t .0 - step .0) % step .0 ≡ 0
       multiple =
-          let whole : t ≡ t / step .0 * step .0 = multiple-is t (step .0) (d .down .multiple) in
+          let whole : t .0 ≡ t .0 / step .0 * step .0 = multiple-is (t .0) (step .0) (d .down .multiple) in
           let pos = d .ready .ready .from in
           let room = down-room in
-          let one : 1 ≤ t / step .0 = native.Mathlib.Nat.le-div-iff-mul-le pos .1 (omega arith) in
-          let parts : t / step .0 * step .0 ≡ 1 * step .0 + (t / step .0 - 1) * step .0 = split-product (step .0) one in
-          let e : t - step .0 ≡ (t / step .0 - 1) * step .0 = omega arith in
+          let one : 1 ≤ t .0 / step .0 = le-div-iff-mul-le pos .1 (omega arith) in
+          let parts : t .0 / step .0 * step .0 ≡ 1 * step .0 + (t .0 / step .0 - 1) * step .0 = split-product (step .0) one in
+          let e : t .0 - step .0 ≡ (t .0 / step .0 - 1) * step .0 = omega arith in
           rw e (mul-mod-left _ _)
 
       turned : (weights : List ℕ) (j : Job) (js : List Job) (lost : ℕ) (ts : List Seconds) → Held spans runs rates weights i n (j ∷ js) →
-          walkDownFrom lessNeed j js (node step written lost ts) (t - step .0) (leastIn m) ≡ walkDown lessNeed (j ∷ js) (node step written lost ts) (leastIn had)
+          walkDownFrom lessNeed j js (node step written lost ts) (seconds (t .0 - step .0)) (leastIn m) ≡ walkDown lessNeed (j ∷ js) (node step written lost ts) (leastIn had)
       turned weights j js lost ts h =
           let p = node step written lost ts in
-          let after = lessens weights js (lost + jobLoss j (seconds t)) (ts ++ (seconds t ∷ [])) (held-next j js h) in
-          let own : walkDown lessNeed js (next j p (seconds t)) (leastIn now) ≡ leastIn m = sym (rw (h .jobs .0 .for-need) at after) in
-          ap (walkDownFrom lessNeed j js p (t - step .0)) (sym own)
-          ∙ sym (down-takes lessNeed j js p t (leastIn now) (d .ready .ready .from) down-room (rw (h .jobs .0 .shortest) at (d .above)))
+          let after = lessens weights js (lost + jobLoss j t) (ts ++ (t ∷ [])) (held-next j js h) in
+          let own : walkDown lessNeed js (next j p t) (leastIn now) ≡ leastIn m = sym (rw (h .jobs .0 .for-need) at after) in
+          ap (walkDownFrom lessNeed j js p (seconds (t .0 - step .0))) (sym own)
+          ∙ sym (down-takes lessNeed j js p t (leastIn now) (d .ready .ready .from) down-room (rw (h .jobs .0 .shortest) at (d .from)))
           ∙ d .down .is weights j js lost ts h
 
   -- a walk that would leave what is had is not made
-  pub down-skip : LessensNothing spans rates (i + 1) n (seconds t) (carried written step (seconds t) (getD runs i 0)) now → Down spans runs rates i n step written had now (t - step .0)
+  pub down-skip : LessensNothing spans rates (i + 1) n t (carried written step t (getD runs i 0)) now → Down spans runs rates i n step written had now (seconds (t .0 - step .0))
   down-skip nothing = down-turn now (λ weights js lost ts h. sym (nothing runs weights js lost ts h))

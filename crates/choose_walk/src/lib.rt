@@ -13,7 +13,7 @@ ghost use Rattle.walk.specs.Steps.{Ready, ReadyForCut};
 ghost use Rattle.choose_offer.specs.Steps.{Sizes};
 ghost use Rattle.choose_walk.specs.Steps.{ReadyForNeed, Lessens, LessensNothing, Walks};
 
-// Tries all permitted plans that begin with the first i of `periods`, multiples in rising order, and keeps the best that
+// Tries all permitted plans that begin with the first i of `periods`, each job's periods in rising order, and keeps the best that
 // fits. `step` is the last of these periods; in that time they have `written` so many pages, and they have `lost` so much.
 pub fn find_best(
     seconds: &[u32; 16],
@@ -37,43 +37,22 @@ pub fn find_best(
         choose_offer::offer(n, budget, step, written, lost, periods, best);
         return;
     }
-    let lo = seconds[i];
-    let hi = seconds[8 + i];
-    let own = pages[i] as u64;
-    let first = (lo + (step.0 - 1)) / step.0;
-    let mut t = first * step.0;
-    while t <= hi {
-        let here = lost
-            + step::job_loss(
-                stiffnesses[i],
-                PagesPerHour(rates[i]),
-                pages[8 + i],
-                Seconds(t),
-            );
-        let floor = here
-            + walk::loss_floor(seconds, pages, rates, stiffnesses, i + 1, n, Seconds(t));
+    let tries = walk::to_try(seconds, i, step);
+    let mut t = tries.first;
+    while t.0 <= tries.last.0 {
+        let here = walk::lost_with(pages, rates, stiffnesses, i, lost, t);
+        let floor = here + walk::loss_floor(seconds, pages, rates, stiffnesses, i + 1, n, t);
         if best[LOSS] < floor {
             return;
         }
-        let a = t / step.0;
-        let next = t + step.0;
-        if walk::repeats(pages, i, a, first) {
+        let next = Seconds(t.0 + step.0);
+        if walk::repeats(pages, i, step, tries.first, t) {
             t = next;
             continue;
         }
-        let more = written * (a as u64) + own;
-        if choose_offer::may_win(
-            seconds,
-            rates,
-            i + 1,
-            n,
-            budget,
-            Seconds(t),
-            more,
-            floor,
-            best,
-        ) {
-            periods[i] = t;
+        let more = step::carry(written, step, t, pages[i]);
+        if choose_offer::may_win(seconds, rates, i + 1, n, budget, t, more, floor, best) {
+            periods[i] = t.0;
             find_best(
                 seconds,
                 pages,
@@ -82,7 +61,7 @@ pub fn find_best(
                 i + 1,
                 n,
                 budget,
-                Seconds(t),
+                t,
                 more,
                 here,
                 periods,
@@ -94,7 +73,7 @@ pub fn find_best(
 }
 
 // The least need of all permitted plans that begin with i periods, the last of them `step`, and `written` so many pages in
-// that time, or `had` if that is less; largest multiples first.
+// that time, or `had` if that is less; longest periods first.
 pub fn least_need(
     seconds: &[u32; 16],
     pages: &[u32; 16],
@@ -111,15 +90,14 @@ pub fn least_need(
     if i == n {
         return smaller(step::need_of(written, step), had);
     }
-    let lo = seconds[i];
-    let own = pages[i] as u64;
+    let tries = walk::to_try(seconds, i, step);
     let mut least = had;
-    let mut t = seconds[8 + i] / step.0 * step.0;
-    while lo <= t {
-        let more = written * ((t / step.0) as u64) + own;
-        let next = t - step.0;
-        if may_lessen(seconds, rates, i + 1, n, Seconds(t), more, least) {
-            least = least_need(seconds, pages, rates, i + 1, n, Seconds(t), more, least);
+    let mut t = tries.last;
+    while tries.first.0 <= t.0 {
+        let more = step::carry(written, step, t, pages[i]);
+        let next = Seconds(t.0 - step.0);
+        if may_lessen(seconds, rates, i + 1, n, t, more, least) {
+            least = least_need(seconds, pages, rates, i + 1, n, t, more, least);
         }
         t = next;
     }
@@ -139,8 +117,8 @@ fn may_lessen(
     requires { ⌜ ReadyForCut (now seconds) (now rates) i n t written ⌝ }
     ensures { λ r. ⌜ (r ≡ false → LessensNothing (now (seconds .entry)) (now (rates .entry)) i n t written had) ⌝ }
 {
-    let floor = step::need_of(written, t).0 + rates[8 + i];
-    if had.0 <= floor {
+    let floor = walk::need_floor(rates, i, t, written);
+    if had.0 <= floor.0 {
         return false;
     }
     walk::reaches(seconds, i, n, t)

@@ -28,6 +28,9 @@ pub loss-is : (w : ℕ) (fastest : PagesPerHour) (pages : ℕ) (t : Seconds) →
 unfolding lossAt
 loss-is w fastest pages t = ap (λ (x : ℕ). w * x) (sym (square (fastest .0 - hourly pages t .0)))
 
+pub loss-at-to : {w : ℕ} {fastest : PagesPerHour} {pages : ℕ} {t : Seconds} → LossFits w fastest pages t → lossAt w fastest pages t ≤ mostLoss
+loss-at-to {w} {fastest} {pages} {t} h = rw (← loss-is w fastest pages t) (loss-fits h)
+
 -- and a need fits 32
 pub need-to : {written : ℕ} {t : Seconds} → NeedFits written t → needAt written t ≤ mostNeed
 unfolding needAt

@@ -78,7 +78,7 @@ fn next_answers(
     marks[COUNT] as usize
 }
 
-// Tries all permitted plans that begin with the first i of `periods`, multiples in rising order, and lets those enter that
+// Tries all permitted plans that begin with the first i of `periods`, each job's periods in rising order, and lets those enter that
 // may. `step` is the last of these periods; in that time they have `written` so many pages, and they have `lost` so much.
 fn find_stairs(
     seconds: &[u32; 16],
@@ -103,44 +103,33 @@ fn find_stairs(
         table_stairs::enter_plan(n, budget, step, written, lost, periods, rows, marks);
         return;
     }
-    let lo = seconds[i];
-    let hi = seconds[8 + i];
-    let own = pages[i] as u64;
-    let first = (lo + (step.0 - 1)) / step.0;
-    let mut t = first * step.0;
-    while t <= hi {
-        let here = lost
-            + step::job_loss(
-                stiffnesses[i],
-                PagesPerHour(rates[i]),
-                pages[8 + i],
-                Seconds(t),
-            );
-        let floor = here
-            + walk::loss_floor(seconds, pages, rates, stiffnesses, i + 1, n, Seconds(t));
+    let tries = walk::to_try(seconds, i, step);
+    let mut t = tries.first;
+    while t.0 <= tries.last.0 {
+        let here = walk::lost_with(pages, rates, stiffnesses, i, lost, t);
+        let floor = here + walk::loss_floor(seconds, pages, rates, stiffnesses, i + 1, n, t);
         if marks[BOUND] <= floor {
             return;
         }
-        let a = t / step.0;
-        let next = t + step.0;
-        if walk::repeats(pages, i, a, first) {
+        let next = Seconds(t.0 + step.0);
+        if walk::repeats(pages, i, step, tries.first, t) {
             t = next;
             continue;
         }
-        let more = written * (a as u64) + own;
+        let more = step::carry(written, step, t, pages[i]);
         if table_stairs::may_enter(
             seconds,
             rates,
             i + 1,
             n,
             budget,
-            Seconds(t),
+            t,
             more,
             floor,
             rows,
             marks,
         ) {
-            periods[i] = t;
+            periods[i] = t.0;
             find_stairs(
                 seconds,
                 pages,
@@ -149,7 +138,7 @@ fn find_stairs(
                 i + 1,
                 n,
                 budget,
-                Seconds(t),
+                t,
                 more,
                 here,
                 periods,

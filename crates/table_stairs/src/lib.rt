@@ -48,12 +48,12 @@ pub fn may_enter(
     requires { ⌜ Rises (getD (now marks) 0 0) (now rows) ⌝ }
     ensures { λ r. ⌜ (r ≡ false → EntersNothing (now (seconds .entry)) (now (rates .entry)) i n budget t written floor (now (rows .entry)) (now (marks .entry))) ⌝ }
 {
-    let need_floor = step::need_of(written, t).0 + rates[8 + i];
-    if budget.0 < need_floor {
+    let need_floor = walk::need_floor(rates, i, t, written);
+    if budget.0 < need_floor.0 {
         return false;
     }
     let count = marks[COUNT] as usize;
-    if covers(rows, count, PagesPerHour(need_floor), floor) {
+    if covers(rows, count, need_floor, floor) {
         return false;
     }
     walk::reaches(seconds, i, n, t)

@@ -5,13 +5,13 @@ use mathlib.Core.Logic.{⊎-elim}
 use mathlib.Core.List.{List, [], _∷_, map, List·Memᴰ, List·Memᴰ·head, List·Memᴰ·tail, List·Memᴰ·not-nil, List·Memᴰ·cases-cons, List·Memᴰ·eq-of-singleton, Memᴰ·map, Memᴰ·of-map}
 use Prim.Native.Nat.{ℕ, zero, suc, _+_, _*_, _-_, _/_, _≤_, _<_}
 use native.Mathlib.Omega.{arith}
-use native.Mathlib.Nat.{le-div-iff-mul-le, mul-mod-left, div-zero, add-div-right, div-eq-of-lt}
+use native.Mathlib.Nat.{le-div-iff-mul-le, div-mul-le-self, mul-le-mul-right, mul-mod-left, div-zero, add-div-right, div-eq-of-lt}
 use Rattle.model.specs.declared.Seconds.{Seconds}
 use Rattle.model.specs.declared.Job.{Job}
 use Rattle.model.specs.Model.{seconds, Allowed, PermittedAfter, roundUp}
 use Rattle.model.specs.Valid.{ValidJobs}
 use Rattle.model.proofs.Lists.{in-flat, flat-has}
-use Rattle.walk.specs.Chains.{climb, risingFrom, multiples, chainsBy, chains}
+use Rattle.walk.specs.Chains.{firstTry, lastTry, climb, risingFrom, multiples, chainsBy, chains}
 use Rattle.model.proofs.Rounding.{round-up-le, round-up-above, multiple-is, split-product}
 use Rattle.walk.proofs.Sorted.{Sorted, RisingPeriods, sorted-flat}
 
@@ -38,27 +38,28 @@ climb-rising p t zero h = tt
 climb-rising p t (suc k) h = (λ u m. let r = climb-in p (t + p) k m in omega arith, climb-rising p (t + p) k h)
 
 -- the loop over multiples: one more step, or the end
-module _ (before hi : Seconds) (t : ℕ) (pos : 1 ≤ before .0) where
-  pub rising-step : t ≤ hi .0 → risingFrom before hi t ≡ seconds t ∷ risingFrom before hi (t + before .0)
+module _ (before last t : Seconds) (pos : 1 ≤ before .0) where
+  pub rising-step : t .0 ≤ last .0 → risingFrom before last t ≡ t ∷ risingFrom before last (seconds (t .0 + before .0))
   unfolding risingFrom climb
   rising-step h =
       let p = before .0 in
-      let a : hi .0 + p - t ≡ (hi .0 - t) + p = omega arith in
-      let b : hi .0 + p - (t + p) ≡ hi .0 - t = omega arith in
-      let d : ((hi .0 - t) + p) / p ≡ (hi .0 - t) / p + 1 = add-div-right (hi .0 - t) pos in
-      let e : (hi .0 + p - t) / p ≡ suc ((hi .0 + p - (t + p)) / p) = rw (a, b) (omega arith) in
-      ap (climb p t) e
+      let left = last .0 - t .0 in
+      let a : last .0 + p - t .0 ≡ left + p = omega arith in
+      let b : last .0 + p - (t .0 + p) ≡ left = omega arith in
+      let d : (left + p) / p ≡ left / p + 1 = add-div-right left pos in
+      let e : (last .0 + p - t .0) / p ≡ suc ((last .0 + p - (t .0 + p)) / p) = rw (a, b) (omega arith) in
+      ap (climb p (t .0)) e
 
-  pub rising-end : hi .0 < t → risingFrom before hi t ≡ []
+  pub rising-end : last .0 < t .0 → risingFrom before last t ≡ []
   unfolding risingFrom climb
   rising-end h =
-      let less : hi .0 + before .0 - t < before .0 = omega arith in
-      ap (climb (before .0) t) (div-eq-of-lt less)
+      let less : last .0 + before .0 - t .0 < before .0 = omega arith in
+      ap (climb (before .0) (t .0)) (div-eq-of-lt less)
 
 -- what is still to come is no smaller
-pub rising-from : (before hi : Seconds) (t : ℕ) {u : Seconds} → List·Memᴰ u (risingFrom before hi t) → t ≤ u .0
+pub rising-from : (before last t : Seconds) {u : Seconds} → List·Memᴰ u (risingFrom before last t) → t .0 ≤ u .0
 unfolding risingFrom
-rising-from before hi t m = let r = climb-in (before .0) t _ m in omega arith
+rising-from before last t m = let r = climb-in (before .0) (t .0) _ m in omega arith
 
 -- The list of a job's periods holds those that are allowed.
 pub record ListsAllowed (periods : Seconds → Job → List Seconds) : Type 0 where
@@ -72,8 +73,9 @@ multiples-only {before} {j} {t} pos m =
     let q = roundUp (j .lo .0) p in
     let r = climb-in p (q * p) _ m in
     let i = r .0 in
-    let fits : suc i * p ≤ j .hi .0 + p - q * p = le-div-iff-mul-le pos .0 (r .1) in
+    let fits : suc i * p ≤ lastTry before j .0 + p - q * p = le-div-iff-mul-le pos .0 (r .1) in
     let from : j .lo .0 ≤ q * p = round-up-above (j .lo .0) pos in
+    let to : lastTry before j .0 ≤ j .hi .0 = div-mul-le-self (j .hi .0) p in
     let is : t .0 ≡ (q + i) * p = omega arith in
     record { above = omega arith; below = omega arith; multiple = rw (is, mul-mod-left) }
 
@@ -86,7 +88,9 @@ multiples-all {before} {j} {t} pos a =
     let le : q ≤ t .0 / p = round-up-le (j .lo .0) (t .0 / p) pos .1 (rw (← is) (a .above)) in
     let i = t .0 / p - q in
     let sum : t .0 ≡ q * p + i * p = is ∙ split-product p le in
-    let fits : suc i * p ≤ j .hi .0 + p - q * p = let b = a .below in omega arith in
+    let most : t .0 / p ≤ j .hi .0 / p = le-div-iff-mul-le pos .1 (rw (← is) (a .below)) in
+    let to : t .0 / p * p ≤ lastTry before j .0 = mul-le-mul-right p most in
+    let fits : suc i * p ≤ lastTry before j .0 + p - q * p = omega arith in
     climb-has p (q * p) _ i (le-div-iff-mul-le pos .1 fits) sum
 
 pub multiples-lists : ListsAllowed multiples
@@ -115,14 +119,14 @@ module _ {periods : Seconds → Job → List Seconds} (law : ListsAllowed period
       let next : 1 ≤ t .0 = omega arith in
       flat-has (λ (u : Seconds). map (λ us. u ∷ us) (chainsBy periods u js)) (periods before j) (law .all pos (h .0)) (Memᴰ·map (λ (us : List Seconds). t ∷ us) (chains-all js ts (v .1) next (h .1)))
 
-rising-at : (hi p t : ℕ) → RisingPeriods (climb p t ((hi + p - t) / p))
+rising-at : (last p t : ℕ) → RisingPeriods (climb p t ((last + p - t) / p))
 unfolding climb
-rising-at hi zero t = rw (div-zero (hi + 0 - t)) tt
-rising-at hi (suc p) t = climb-rising (suc p) t ((hi + suc p - t) / suc p) (omega arith)
+rising-at last zero t = rw (div-zero (last + 0 - t)) tt
+rising-at last (suc p) t = climb-rising (suc p) t ((last + suc p - t) / suc p) (omega arith)
 
 pub multiples-rising : (before : Seconds) (j : Job) → RisingPeriods (multiples before j)
 unfolding multiples risingFrom
-multiples-rising before j = rising-at (j .hi .0) (before .0) (roundUp (j .lo .0) (before .0) * before .0)
+multiples-rising before j = rising-at (lastTry before j .0) (before .0) (firstTry before j .0)
 
 -- the chains stand in lexicographic order, each once
 pub chains-sorted : (before : Seconds) (js : List Job) → Sorted (chains before js)

@@ -1,22 +1,23 @@
--- The loop of a rising walk, turn by turn, whatever the walk keeps: from the present multiple up, begun with what is had, it ends as the whole walk does.
+-- The loop of a rising walk, turn by turn, whatever the walk keeps: from the present period up, begun with what is had, it ends as the whole walk does.
 -- Assumes nothing.
 use mathlib.Core.Path.{_≡_, refl, sym, _∙_, ap, subst}
 use mathlib.Core.List.{List, [], _∷_, _++_, map}
 use Prim.Native.Nat.{ℕ, zero, suc, _+_, _*_, _-_, _/_, _%_, _≤_, _<_, zero-le}
 use native.Mathlib.Omega.{arith}
 use native.Mathlib.Numerals.{add-one}
-use native.Mathlib.Nat.{le-refl, mul-mod-left, add-mod-right}
+use native.Mathlib.Nat.{le-refl, le-trans, mul-mod-left, add-mod-right, mul-div-cancel, div-mul-le-self}
 use lib.ListN.{length, getD, take, set}
 use lib.Seq.{take-suc-set, take-set-le}
 use Rattle.model.specs.declared.Seconds.{Seconds}
 use Rattle.model.specs.declared.Job.{Job}
-use Rattle.model.specs.Most.{mostNeed, mostLoss}
+use Rattle.model.specs.Most.{mostLoss}
 use Rattle.model.proofs.Bounds.{job-loss-bound}
-use Rattle.model.specs.Model.{seconds, jobLoss}
+use Rattle.model.specs.Model.{seconds, roundUp, jobLoss}
 use Rattle.step.specs.Step.{carried, needAt}
+use Rattle.walk.specs.declared.Tries.{Tries}
 use Rattle.walk.specs.Walk.{node, next, walkBy, walk, walkFrom}
 use Rattle.walk.specs.Arrays.{HoldsJob, Held}
-use Rattle.walk.specs.Steps.{lossHeld, LossHeldFits, Repeats, Later, Ready, ReadyForCut, IsLossFloor, periodsIn, ChangesNothing, Walked}
+use Rattle.walk.specs.Steps.{lossHeld, LossHeldFits, triesHeld, PassedOver, Repeats, Later, Ready, ReadyForCut, IsLossFloor, periodsIn, ChangesNothing, Walked}
 use Rattle.model.proofs.Rounding.{round-up-above, round-up-some}
 use Rattle.walk.proofs.Bounds.{loss-floor-bound}
 use Rattle.walk.proofs.Chains.{multiples-lists}
@@ -24,7 +25,7 @@ use Rattle.walk.proofs.Walk.{Keeps}
 use Rattle.walk.proofs.Pageless.{Pageless, Absorbs, SettledTo, settled-first, settled-more, settled-passes}
 use Rattle.walk.proofs.Loops.{loop-opens, loop-takes, loop-ends, loop-left}
 use Rattle.walk.proofs.Held.{held-open, held-none, held-next, held-valid, job-loss-fits, job-loss-is}
-use Rattle.walk.proofs.Cuts.{next-ready, next-written}
+use Rattle.walk.proofs.Cuts.{ready-longest, next-ready}
 
 pub periods-snoc : (xs : List ℕ) (t : ℕ) → map seconds (xs ++ (t ∷ [])) ≡ map seconds xs ++ (seconds t ∷ [])
 periods-snoc [] t = refl
@@ -46,14 +47,14 @@ shorter i xs ys e = sym (twice i xs) ∙ ap (take i) e ∙ twice i ys
 multiple-more : (t p : ℕ) → t % p ≡ 0 → (t + p) % p ≡ 0
 multiple-more t p e = add-mod-right t p ∙ e
 
--- Before each turn: t is the multiple whose turn it is, and the walk from it up, begun with what is had, ends as the whole walk does; no completion of an earlier multiple would change what is had.
-pub record Up {A : Type 0} (f : ℕ → ℕ → List Seconds → A → A) (spans runs rates weights : List ℕ) (i n : ℕ) (step : Seconds) (written lost : ℕ) (ps₀ : List ℕ) (acc₀ : A) (ps : List ℕ) (acc : A) (t : ℕ) : Type 0 where
+-- Before each turn: t is the period whose turn it is, and the walk from it up, begun with what is had, ends as the whole walk does; no completion of an earlier one would change what is had.
+pub record Up {A : Type 0} (f : ℕ → ℕ → List Seconds → A → A) (spans runs rates weights : List ℕ) (i n : ℕ) (step : Seconds) (written lost : ℕ) (ps₀ : List ℕ) (acc₀ : A) (ps : List ℕ) (acc : A) (t : Seconds) : Type 0 where
   pub before : take i ps ≡ take i ps₀
-  pub multiple : t % step .0 ≡ 0
-  pub above : getD spans i 0 ≤ t
+  pub multiple : t .0 % step .0 ≡ 0
+  pub above : getD spans i 0 ≤ t .0
   pub is : (j : Job) (js : List Job) → Held spans runs rates weights i n (j ∷ js) →
       walkFrom f j js (node step written lost (periodsIn i ps₀)) t acc ≡ walk f (j ∷ js) (node step written lost (periodsIn i ps₀)) acc₀
-  pub settled : (j : Job) (js : List Job) → Held spans runs rates weights i n (j ∷ js) → SettledTo f j js (node step written lost (periodsIn i ps₀)) t acc
+  pub settled : (j : Job) (js : List Job) → Held spans runs rates weights i n (j ∷ js) → SettledTo f j js (node step written lost (periodsIn i ps₀)) (t .0) acc
 
 module _ {spans runs rates weights : List ℕ} {i n : ℕ} {step : Seconds} {written lost : ℕ} (r : Ready spans runs rates weights i n step written lost) {A : Type 0} {f : ℕ → ℕ → List Seconds → A → A} where
   -- the last job has its period: one plan
@@ -66,45 +67,57 @@ module _ {spans runs rates weights : List ℕ} {i n : ℕ} {step : Seconds} {wri
           let none : js ≡ [] = held-none js (subst (λ (x : ℕ). Held spans runs rates weights x n js) e h) in
           rw (none, e) o
 
-  pub up-starts : (less : i < n) {ps : List ℕ} {acc : A} → Up f spans runs rates weights i n step written lost ps acc ps acc ((getD spans i 0 + (step .0 - 1)) / step .0 * step .0)
-  up-starts less {ps} {acc} = record { before = refl; multiple = mul-mod-left _ _; above = round-up-above (getD spans i 0) (r .from); is = opens; settled = none }
-    where
-      opens : (j : Job) (js : List Job) → Held spans runs rates weights i n (j ∷ js) →
-          walkFrom f j js (node step written lost (periodsIn i ps)) ((getD spans i 0 + (step .0 - 1)) / step .0 * step .0) acc ≡ walk f (j ∷ js) (node step written lost (periodsIn i ps)) acc
-      opens j js h = rw (h .jobs .0 .shortest) (sym (loop-opens f j js (node step written lost (periodsIn i ps)) acc))
+  -- the loop opens at the first period that may be tried
+  module _ {tries : Tries} (told : tries ≡ triesHeld spans i step) where
+    pub up-starts : {ps : List ℕ} {acc : A} → Up f spans runs rates weights i n step written lost ps acc ps acc (tries .first)
+    up-starts {ps} {acc} = rw told (record { before = refl; multiple = mul-mod-left _ _; above = round-up-above (getD spans i 0) (r .from); is = opens; settled = none })
+      where
+        opens : (j : Job) (js : List Job) → Held spans runs rates weights i n (j ∷ js) →
+            walkFrom f j js (node step written lost (periodsIn i ps)) (triesHeld spans i step .first) acc ≡ walk f (j ∷ js) (node step written lost (periodsIn i ps)) acc
+        opens j js h = rw (h .jobs .0 .shortest) (sym (loop-opens f j js (node step written lost (periodsIn i ps)) acc))
 
-      none : (j : Job) (js : List Job) → Held spans runs rates weights i n (j ∷ js) → SettledTo f j js (node step written lost (periodsIn i ps)) ((getD spans i 0 + (step .0 - 1)) / step .0 * step .0) acc
-      none j js h = rw (h .jobs .0 .shortest) (settled-first f j js (node step written lost (periodsIn i ps)) acc (r .from))
+        none : (j : Job) (js : List Job) → Held spans runs rates weights i n (j ∷ js) → SettledTo f j js (node step written lost (periodsIn i ps)) (triesHeld spans i step .first .0) acc
+        none j js h = rw (h .jobs .0 .shortest) (settled-first f j js (node step written lost (periodsIn i ps)) acc (r .from))
 
-  module _ (less : i < n) {ps₀ ps : List ℕ} {acc₀ acc : A} {t : ℕ} (u : Up f spans runs rates weights i n step written lost ps₀ acc₀ ps acc t) where
-    pub up-done : getD spans (8 + i) 0 < t → Walked f spans runs rates weights i n step written lost ps₀ ps acc₀ acc
-    up-done past = record { before = u .before; is = done }
+    -- and ends past the last
+    pub up-done : i < n → {ps₀ ps : List ℕ} {acc₀ acc : A} {t : Seconds} → Up f spans runs rates weights i n step written lost ps₀ acc₀ ps acc t → tries .last .0 < t .0 → Walked f spans runs rates weights i n step written lost ps₀ ps acc₀ acc
+    up-done less {ps₀} {ps} {acc₀} {acc} {t} u past = record { before = u .before; is = done }
       where
         done : (js : List Job) → Held spans runs rates weights i n js → acc ≡ walk f js (node step written lost (periodsIn i ps₀)) acc₀
         done js h =
             let o = held-open js less h in
             let p = node step written lost (periodsIn i ps₀) in
             let k : Held spans runs rates weights i n (o .job ∷ o .rest) = subst (Held spans runs rates weights i n) (o .is) h in
-            rw (o .is) (sym (loop-ends f (o .job) (o .rest) p t acc (r .from) (rw (o .holds .longest) at past)) ∙ u .is (o .job) (o .rest) k)
+            rw (o .is) (sym (loop-ends f (o .job) (o .rest) p t acc (r .from) (rw (told, o .holds .longest) at past)) ∙ u .is (o .job) (o .rest) k)
 
--- A turn of the loop: what stands before it, and a multiple within the interval; the update absorbs what it visits.
-pub record Turn {A : Type 0} (Good : A → Type 0) (f : ℕ → ℕ → List Seconds → A → A) (spans runs rates weights : List ℕ) (i n : ℕ) (step : Seconds) (written lost : ℕ) (ps₀ : List ℕ) (acc₀ : A) (ps : List ℕ) (acc : A) (t : ℕ) : Type 0 where
+-- A turn of the loop: what stands before it, and a period that may be tried; the update absorbs what it visits.
+pub record Turn {A : Type 0} (Good : A → Type 0) (f : ℕ → ℕ → List Seconds → A → A) (spans runs rates weights : List ℕ) (i n : ℕ) (step : Seconds) (written lost : ℕ) (ps₀ : List ℕ) (acc₀ : A) (ps : List ℕ) (acc : A) (t : Seconds) : Type 0 where
   pub ready : Ready spans runs rates weights i n step written lost
   pub less : i < n
   pub up : Up f spans runs rates weights i n step written lost ps₀ acc₀ ps acc t
-  pub on : t ≤ getD spans (8 + i) 0
+  pub on : t .0 ≤ triesHeld spans i step .last .0
   pub absorbs : Absorbs Good f
   pub good : Good acc
 
-module _ {A : Type 0} {Good : A → Type 0} {f : ℕ → ℕ → List Seconds → A → A} {spans runs rates weights : List ℕ} {i n : ℕ} {step : Seconds} {written lost : ℕ} {ps₀ ps : List ℕ} {acc₀ acc : A} {t : ℕ} (u : Turn Good f spans runs rates weights i n step written lost ps₀ acc₀ ps acc t) where
+module _ {A : Type 0} {Good : A → Type 0} {f : ℕ → ℕ → List Seconds → A → A} {spans runs rates weights : List ℕ} {i n : ℕ} {step : Seconds} {written lost : ℕ} {ps₀ ps : List ℕ} {acc₀ acc : A} {t : Seconds} (u : Turn Good f spans runs rates weights i n step written lost ps₀ acc₀ ps acc t) where
+  pub up-place : i < 8
+  up-place = omega (arith, u .less, u .ready .held .most)
+
+  below-longest : t .0 ≤ getD spans (8 + i) 0
+  below-longest = le-trans (u .on) (div-mul-le-self (getD spans (8 + i) 0) (step .0))
+
+  -- the period is within the hour, and so is the next one's sum
+  pub up-to : t .0 ≤ 3600
+  up-to = le-trans below-longest (ready-longest (u .ready) (u .less))
+
   -- the loss so far with this job's
-  pub up-loss-fits : LossHeldFits runs rates weights i (seconds t)
-  up-loss-fits = let o = held-open (u .ready .js) (u .less) (u .ready .held) in job-loss-fits (o .holds) (seconds t) (rw (o .holds .shortest) at (u .up .above))
+  pub up-loss-fits : LossHeldFits runs rates weights i t
+  up-loss-fits = let o = held-open (u .ready .js) (u .less) (u .ready .held) in job-loss-fits (o .holds) t (rw (o .holds .shortest) at (u .up .above))
 
-  loss-here : (j : Job) {js : List Job} → HoldsJob spans runs rates weights i j js → {x : ℕ} → x ≡ lossHeld runs rates weights i (seconds t) → x ≡ jobLoss j (seconds t)
-  loss-here j h e = e ∙ job-loss-is h (seconds t) (rw (h .shortest) at (u .up .above))
+  loss-here : (j : Job) {js : List Job} → HoldsJob spans runs rates weights i j js → lossHeld runs rates weights i t ≡ jobLoss j t
+  loss-here j h = job-loss-is h t (rw (h .shortest) at (u .up .above))
 
-  pub up-later : Later spans runs rates weights (i + 1) n (seconds t)
+  pub up-later : Later spans runs rates weights (i + 1) n t
   up-later =
       let o = held-open (u .ready .js) (u .less) (u .ready .held) in
       let v = o .holds .valid in
@@ -112,69 +125,70 @@ module _ {A : Type 0} {Good : A → Type 0} {f : ℕ → ℕ → List Seconds �
       let a = u .up .above in
       record { js = o .rest; held = o .later; from = omega arith }
 
-  pub up-written : carried written step (seconds t) (getD runs i 0) ≤ mostNeed
-  up-written = next-written (u .ready) (u .less) t (u .up .multiple) (u .up .above) (u .on)
+  pub up-from : 1 ≤ t .0
+  up-from = up-later .from
 
   -- the first multiplier that reaches the interval
-  pub up-first : 1 ≤ (getD spans i 0 + (step .0 - 1)) / step .0
+  pub up-first : 1 ≤ triesHeld spans i step .first .0 / step .0
   up-first =
       let o = held-open (u .ready .js) (u .less) (u .ready .held) in
       let v = o .holds .valid in
       let s = o .holds .shortest in
-      round-up-some (omega arith) (u .ready .from)
+      rw (mul-div-cancel (roundUp (getD spans i 0) (step .0)) (u .ready .from)) (round-up-some (omega arith) (u .ready .from))
 
-  pub up-cut : ReadyForCut spans rates (i + 1) n (seconds t) (carried written step (seconds t) (getD runs i 0))
-  up-cut = record { runs = runs; weights = weights; ready = next-ready (u .ready) (u .less) t (u .up .multiple) (u .up .above) (u .on) zero-le }
+  pub up-cut : ReadyForCut spans rates (i + 1) n t (carried written step t (getD runs i 0))
+  up-cut = record { runs = runs; weights = weights; ready = next-ready (u .ready) (u .less) t (u .up .multiple) (u .up .above) below-longest zero-le }
 
-  -- one turn, where the walk below this multiple takes what is had to acc′
+  -- one turn, where the walk below this period takes what is had to acc′
   turn : {ps′ : List ℕ} {acc′ : A} → take i ps′ ≡ take i ps₀ →
-      ((j : Job) (js : List Job) → Held spans runs rates weights i n (j ∷ js) → walk f js (next j (node step written lost (periodsIn i ps₀)) (seconds t)) acc ≡ acc′) →
-      Up f spans runs rates weights i n step written lost ps₀ acc₀ ps′ acc′ (t + step .0)
+      ((j : Job) (js : List Job) → Held spans runs rates weights i n (j ∷ js) → walk f js (next j (node step written lost (periodsIn i ps₀)) t) acc ≡ acc′) →
+      Up f spans runs rates weights i n step written lost ps₀ acc₀ ps′ acc′ (seconds (t .0 + step .0))
   turn {ps′} {acc′} same below =
       let a = u .up .above in
-      record { before = same; multiple = multiple-more t (step .0) (u .up .multiple); above = omega arith; is = turned; settled = more }
+      record { before = same; multiple = multiple-more (t .0) (step .0) (u .up .multiple); above = omega arith; is = turned; settled = more }
     where
       turned : (j : Job) (js : List Job) → Held spans runs rates weights i n (j ∷ js) →
-          walkFrom f j js (node step written lost (periodsIn i ps₀)) (t + step .0) acc′ ≡ walk f (j ∷ js) (node step written lost (periodsIn i ps₀)) acc₀
+          walkFrom f j js (node step written lost (periodsIn i ps₀)) (seconds (t .0 + step .0)) acc′ ≡ walk f (j ∷ js) (node step written lost (periodsIn i ps₀)) acc₀
       turned j js h =
           let p = node step written lost (periodsIn i ps₀) in
-          ap (walkFrom f j js p (t + step .0)) (sym (below j js h))
+          ap (walkFrom f j js p (seconds (t .0 + step .0))) (sym (below j js h))
           ∙ sym (loop-takes f j js p t acc (u .ready .from) (rw (h .jobs .0 .longest) at (u .on)))
           ∙ u .up .is j js h
 
-      more : (j : Job) (js : List Job) → Held spans runs rates weights i n (j ∷ js) → SettledTo f j js (node step written lost (periodsIn i ps₀)) (t + step .0) acc′
+      more : (j : Job) (js : List Job) → Held spans runs rates weights i n (j ∷ js) → SettledTo f j js (node step written lost (periodsIn i ps₀)) (t .0 + step .0) acc′
       more j js h =
           let p = node step written lost (periodsIn i ps₀) in
-          subst (SettledTo f j js p (t + step .0)) (below j js h)
-          (settled-more f j js p acc (u .ready .from) (held-valid js (held-next j js h)) t (up-later .from) (u .up .multiple) (u .up .settled j js h) (u .absorbs) (u .good) multiples-lists)
+          subst (SettledTo f j js p (t .0 + step .0)) (below j js h)
+          (settled-more f j js p acc (u .ready .from) (held-valid js (held-next j js h)) (t .0) (up-later .from) (u .up .multiple) (u .up .settled j js h) (u .absorbs) (u .good) multiples-lists)
 
-  -- without pages, and at a multiple of an earlier multiple: nothing here that was not had there
-  pub up-pass : Repeats runs i (t / step .0) ((getD spans i 0 + (step .0 - 1)) / step .0) → Up f spans runs rates weights i n step written lost ps₀ acc₀ ps acc (t + step .0)
+  -- without pages, and at a multiple of an earlier period: nothing here that was not had there
+  pub up-pass : Repeats runs i step (triesHeld spans i step .first) t → Up f spans runs rates weights i n step written lost ps₀ acc₀ ps acc (seconds (t .0 + step .0))
   up-pass repeats = turn (u .up .before) below
     where
-      below : (j : Job) (js : List Job) → Held spans runs rates weights i n (j ∷ js) → walk f js (next j (node step written lost (periodsIn i ps₀)) (seconds t)) acc ≡ acc
+      below : (j : Job) (js : List Job) → Held spans runs rates weights i n (j ∷ js) → walk f js (next j (node step written lost (periodsIn i ps₀)) t) acc ≡ acc
       below j js h =
           let idle : Pageless j = record { for-need = sym (h .jobs .0 .for-need) ∙ repeats .for-need; for-loss = sym (h .jobs .0 .for-loss) ∙ repeats .for-loss } in
-          let passed = repeats .passed in
-          settled-passes f j js (node step written lost (periodsIn i ps₀)) acc (u .ready .from) (held-valid js (held-next j js h)) t (up-later .from) (u .up .multiple) (u .up .settled j js h) idle (rw (h .jobs .0 .shortest) at passed) multiples-lists
+          let passed : PassedOver (t .0 / step .0) (roundUp (getD spans i 0) (step .0)) = rw (mul-div-cancel (roundUp (getD spans i 0) (step .0)) (u .ready .from)) at (repeats .passed) in
+          settled-passes f j js (node step written lost (periodsIn i ps₀)) acc (u .ready .from) (held-valid js (held-next j js h)) (t .0) (up-later .from) (u .up .multiple) (u .up .settled j js h) idle (rw (h .jobs .0 .shortest) at passed) multiples-lists
 
-  module _ {x : ℕ} (own : x ≡ lossHeld runs rates weights i (seconds t)) where
-    pub up-lost : lost + x ≤ mostLoss * (i + 1)
+  -- with this job the loss is `here`
+  module _ {here : ℕ} (own : here ≡ lost + lossHeld runs rates weights i t) where
+    pub up-lost : here ≤ mostLoss * (i + 1)
     up-lost =
         let o = held-open (u .ready .js) (u .less) (u .ready .held) in
-        let e = loss-here (o .job) (o .holds) own in
-        let k = job-loss-bound (o .job) (seconds t) (o .holds .valid) in
+        let e = loss-here (o .job) (o .holds) in
+        let k = job-loss-bound (o .job) t (o .holds .valid) in
         let l : lost ≤ mostLoss * i = u .ready .bounded .lost-to in
         omega arith
 
-    pub up-next : Ready spans runs rates weights (i + 1) n (seconds t) (carried written step (seconds t) (getD runs i 0)) (lost + x)
-    up-next = next-ready (u .ready) (u .less) t (u .up .multiple) (u .up .above) (u .on) up-lost
+    pub up-next : Ready spans runs rates weights (i + 1) n t (carried written step t (getD runs i 0)) here
+    up-next = next-ready (u .ready) (u .less) t (u .up .multiple) (u .up .above) below-longest up-lost
 
-    module _ {low : ℕ} (floor : IsLossFloor spans runs rates weights (i + 1) n (seconds t) low) where
-      pub up-floor : lost + x + low ≤ mostLoss * 8
+    module _ {low : ℕ} (floor : IsLossFloor spans runs rates weights (i + 1) n t low) where
+      pub up-floor : here + low ≤ mostLoss * 8
       up-floor =
           let l = up-later in
-          let k = loss-floor-bound (l .js) t (held-valid (l .js) (l .held)) in
+          let k = loss-floor-bound (l .js) (t .0) (held-valid (l .js) (l .held)) in
           let e = floor (l .js) (l .held) in
           let a = up-lost in
           let c = l .held .count in
@@ -182,7 +196,7 @@ module _ {A : Type 0} {Good : A → Type 0} {f : ℕ → ℕ → List Seconds �
           omega arith
 
       -- what is had stands against the loss floor: nothing from here on changes it
-      pub up-left : Keeps f acc 0 (lost + x + low) → Walked f spans runs rates weights i n step written lost ps₀ ps acc₀ acc
+      pub up-left : Keeps f acc 0 (here + low) → Walked f spans runs rates weights i n step written lost ps₀ ps acc₀ acc
       up-left keeps = record { before = u .up .before; is = left }
         where
           left : (js : List Job) → Held spans runs rates weights i n js → acc ≡ walk f js (node step written lost (periodsIn i ps₀)) acc₀
@@ -190,36 +204,36 @@ module _ {A : Type 0} {Good : A → Type 0} {f : ℕ → ℕ → List Seconds �
               let o = held-open js (u .less) h in
               let p = node step written lost (periodsIn i ps₀) in
               let k : Held spans runs rates weights i n (o .job ∷ o .rest) = subst (Held spans runs rates weights i n) (o .is) h in
-              let e = loss-here (o .job) (o .holds) own in
+              let e = loss-here (o .job) (o .holds) in
               let g = floor (o .rest) (o .later) in
               let pos = up-later .from in
-              let stays : walkFrom f (o .job) (o .rest) p t acc ≡ acc = loop-left f (o .job) (o .rest) p t (lost + x + low) acc (held-valid (o .rest) (o .later)) pos (omega arith) keeps in
+              let stays : walkFrom f (o .job) (o .rest) p t acc ≡ acc = loop-left f (o .job) (o .rest) p t (here + low) acc (held-valid (o .rest) (o .later)) pos (omega arith) keeps in
               rw (o .is) (sym stays ∙ u .up .is (o .job) (o .rest) k)
 
-      pub up-skip : ChangesNothing f spans rates (i + 1) n (seconds t) (carried written step (seconds t) (getD runs i 0)) (lost + x + low) acc →
-          Up f spans runs rates weights i n step written lost ps₀ acc₀ ps acc (t + step .0)
+      pub up-skip : ChangesNothing f spans rates (i + 1) n t (carried written step t (getD runs i 0)) (here + low) acc →
+          Up f spans runs rates weights i n step written lost ps₀ acc₀ ps acc (seconds (t .0 + step .0))
       up-skip nothing = turn (u .up .before) below
         where
-          below : (j : Job) (js : List Job) → Held spans runs rates weights i n (j ∷ js) → walk f js (next j (node step written lost (periodsIn i ps₀)) (seconds t)) acc ≡ acc
+          below : (j : Job) (js : List Job) → Held spans runs rates weights i n (j ∷ js) → walk f js (next j (node step written lost (periodsIn i ps₀)) t) acc ≡ acc
           below j js h =
-              let e = loss-here j (h .jobs .0) own in
+              let e = loss-here j (h .jobs .0) in
               let g = floor js (held-next j js h) in
-              let stays = nothing runs weights js (lost + jobLoss j (seconds t)) (periodsIn i ps₀ ++ (seconds t ∷ [])) (held-next j js h) (omega arith) in
+              let stays = nothing runs weights js (lost + jobLoss j t) (periodsIn i ps₀ ++ (t ∷ [])) (held-next j js h) (omega arith) in
               rw (h .jobs .0 .for-need) at stays
 
-      pub up-turn : {ps′ : List ℕ} {acc′ : A} → length ps ≡ 8 → Walked f spans runs rates weights (i + 1) n (seconds t) (carried written step (seconds t) (getD runs i 0)) (lost + x) (set ps i t) ps′ acc acc′ →
-          Up f spans runs rates weights i n step written lost ps₀ acc₀ ps′ acc′ (t + step .0)
-      up-turn {ps′} {acc′} eight w = turn same below
-        where
-          place : i < length ps
-          place = let m = u .ready .held .most in let l = u .less in omega arith
+    pub up-turn : {ps′ : List ℕ} {acc′ : A} → length ps ≡ 8 → Walked f spans runs rates weights (i + 1) n t (carried written step t (getD runs i 0)) here (set ps i (t .0)) ps′ acc acc′ →
+        Up f spans runs rates weights i n step written lost ps₀ acc₀ ps′ acc′ (seconds (t .0 + step .0))
+    up-turn {ps′} {acc′} eight w = turn same below
+      where
+        place : i < length ps
+        place = let m = u .ready .held .most in let l = u .less in omega arith
 
-          same : take i ps′ ≡ take i ps₀
-          same = shorter i ps′ (set ps i t) (rw (add-one i) at (w .before)) ∙ take-set-le i ps i t (le-refl i) ∙ u .up .before
+        same : take i ps′ ≡ take i ps₀
+        same = shorter i ps′ (set ps i (t .0)) (rw (add-one i) at (w .before)) ∙ take-set-le i ps i (t .0) (le-refl i) ∙ u .up .before
 
-          below : (j : Job) (js : List Job) → Held spans runs rates weights i n (j ∷ js) → walk f js (next j (node step written lost (periodsIn i ps₀)) (seconds t)) acc ≡ acc′
-          below j js h =
-              let e = loss-here j (h .jobs .0) own in
-              let ts : periodsIn (i + 1) (set ps i t) ≡ periodsIn i ps₀ ++ (seconds t ∷ []) = periods-more i t ps place ∙ ap (λ (l : List ℕ). map seconds l ++ (seconds t ∷ [])) (u .up .before) in
-              let after = w .is js (held-next j js h) in
-              sym (rw (h .jobs .0 .for-need, e, ts) at after)
+        below : (j : Job) (js : List Job) → Held spans runs rates weights i n (j ∷ js) → walk f js (next j (node step written lost (periodsIn i ps₀)) t) acc ≡ acc′
+        below j js h =
+            let e : here ≡ lost + jobLoss j t = own ∙ ap (λ (x : ℕ). lost + x) (loss-here j (h .jobs .0)) in
+            let ts : periodsIn (i + 1) (set ps i (t .0)) ≡ periodsIn i ps₀ ++ (t ∷ []) = periods-more i (t .0) ps place ∙ ap (λ (l : List ℕ). map seconds l ++ (t ∷ [])) (u .up .before) in
+            let after = w .is js (held-next j js h) in
+            sym (rw (h .jobs .0 .for-need, e, ts) at after)

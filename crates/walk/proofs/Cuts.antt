@@ -15,7 +15,7 @@ use Rattle.step.specs.Step.{carried, needAt, NeedFits}
 use Rattle.step.proofs.Bounds.{start-bounded, need-bound, next-bounded, bounded-fits}
 use Rattle.walk.specs.Walk.{needFloor, Node, node, walkBy}
 use Rattle.walk.specs.Arrays.{HoldsJob, Held}
-use Rattle.walk.specs.Steps.{Ends, Unreached, Ready, ReadyForCut, ChangesNothing}
+use Rattle.walk.specs.Steps.{MayTry, Ends, Unreached, Ready, ReadyForCut, ChangesNothing}
 use Rattle.walk.proofs.Chains.{ListsAllowed, multiples-lists}
 use Rattle.walk.proofs.Walk.{Keeps, walk-cut, walk-out-of-reach}
 use Rattle.walk.proofs.Bounds.{least-needs-bound}
@@ -83,29 +83,30 @@ module _ {spans runs rates weights : List ℕ} {i n : ℕ} where
         let b = least-needs-bound (r .js) (held-valid (r .js) (r .held)) in
         omega arith
 
+    -- what the need floor asks
+    pub ready-floor : (i ≤ 8) × (NeedFits written t × (needAt written t + getD rates (8 + i) 0 ≤ mostNeed))
+    ready-floor = (place-to, (ready-need, need-floor-to))
+
+    -- the periods that this job may try
+    pub ready-tries : i < n → MayTry spans i t
+    ready-tries less =
+        record { place = (let m = r .held .most in omega arith); from = r .from; to = r .to; shortest-to = ready-shortest less; longest-to = ready-longest less }
+
     -- one more job, at a multiple of the period before
-    module _ (less : i < n) (u : ℕ) (multiple : u % t .0 ≡ 0) (above : getD spans i 0 ≤ u) (below : u ≤ getD spans (8 + i) 0) where
-      pub next-allowed : (j : Job) {js : List Job} → HoldsJob spans runs rates weights i j js → Allowed j t (seconds u)
+    module _ (less : i < n) (u : Seconds) (multiple : u .0 % t .0 ≡ 0) (above : getD spans i 0 ≤ u .0) (below : u .0 ≤ getD spans (8 + i) 0) where
+      pub next-allowed : (j : Job) {js : List Job} → HoldsJob spans runs rates weights i j js → Allowed j t u
       next-allowed j h = record { above = rw (h .shortest) at above; below = rw (h .longest) at below; multiple = multiple }
 
-      pub next-ready : {lost′ : ℕ} → lost′ ≤ mostLoss * (i + 1) → Ready spans runs rates weights (i + 1) n (seconds u) (carried written t (seconds u) (getD runs i 0)) lost′
+      pub next-ready : {lost′ : ℕ} → lost′ ≤ mostLoss * (i + 1) → Ready spans runs rates weights (i + 1) n u (carried written t u (getD runs i 0)) lost′
       next-ready {lost′} lost≤ =
           let o = held-open (r .js) less (r .held) in
           let v = o .holds .valid in
           let lo = o .holds .shortest in
           let hi = o .holds .longest in
           let own = o .holds .for-need in
-          let b = next-bounded (r .bounded) (o .job) (seconds u) v (next-allowed (o .job) (o .holds)) in
-          let p : carried written t (seconds u) (load (o .job)) ≤ mostPages * (i + 1) * u = b .pages-to in
+          let b = next-bounded (r .bounded) (o .job) u v (next-allowed (o .job) (o .holds)) in
+          let p : carried written t u (load (o .job)) ≤ mostPages * (i + 1) * u .0 = b .pages-to in
           record { js = o .rest; held = o .later; from = omega arith; to = omega arith; bounded = record { pages-to = omega arith; lost-to = lost≤ } }
-
-      pub next-written : carried written t (seconds u) (getD runs i 0) ≤ mostNeed
-      next-written =
-          let s : Ready spans runs rates weights (i + 1) n (seconds u) (carried written t (seconds u) (getD runs i 0)) 0 = next-ready zero-le in
-          let f = bounded-fits (s .bounded) (let c = s .held .count in let m = s .held .most in omega arith) (s .from) (s .to) in
-          let w = f .written-to in
-          let to = f .to in
-          omega arith
 
 -- where a walk begins
 pub ready-start : {spans runs rates weights : List ℕ} {n : ℕ} {js : List Job} → Held spans runs rates weights 0 n js → Ready spans runs rates weights 0 n (seconds 1) 0 0

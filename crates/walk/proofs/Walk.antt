@@ -91,15 +91,15 @@ module _ {order : Seconds → Job → List Seconds} (law : ListsAllowed order) {
     walk-out-of-reach m far = walk-kept (λ ts h. absurd (out-of-reach (n .before) js ts pos m far h))
 
   -- the loss floor at t holds for every multiple from t on: the loop can be left
-  pub rising-cut : (j : Job) (js : List Job) (n : Node) (hi : Seconds) (t l : ℕ) → ValidJobs js → 1 ≤ t → l ≤ n .lost + jobLoss j (seconds t) + lossFloor js t → Keeps f acc 0 l →
-      visit (λ u. walkBy order f js (next j n u)) acc (risingFrom (n .before) hi t) ≡ acc
-  rising-cut j js n hi t l v pos l≤ keeps = visit-kept (λ u. walkBy order f js (next j n u)) acc (risingFrom (n .before) hi t) each
+  pub rising-cut : (j : Job) (js : List Job) (n : Node) (last t : Seconds) (l : ℕ) → ValidJobs js → 1 ≤ t .0 → l ≤ n .lost + jobLoss j t + lossFloor js (t .0) → Keeps f acc 0 l →
+      visit (λ u. walkBy order f js (next j n u)) acc (risingFrom (n .before) last t) ≡ acc
+  rising-cut j js n last t l v pos l≤ keeps = visit-kept (λ u. walkBy order f js (next j n u)) acc (risingFrom (n .before) last t) each
     where
-      each : (u : Seconds) → List·Memᴰ u (risingFrom (n .before) hi t) → walkBy order f js (next j n u) acc ≡ acc
+      each : (u : Seconds) → List·Memᴰ u (risingFrom (n .before) last t) → walkBy order f js (next j n u) acc ≡ acc
       each u m =
-          let on : t ≤ u .0 = rising-from (n .before) hi t m in
-          let here : jobLoss j (seconds t) ≤ jobLoss j u = job-loss-mono j pos on in
-          let later : lossFloor js t ≤ lossFloor js (u .0) = loss-floor-mono js v on in
+          let on : t .0 ≤ u .0 = rising-from (n .before) last t m in
+          let here : jobLoss j t ≤ jobLoss j u = job-loss-mono j pos on in
+          let later : lossFloor js (t .0) ≤ lossFloor js (u .0) = loss-floor-mono js v on in
           let total : l ≤ n .lost + jobLoss j u + lossFloor js (u .0) = omega arith in
           walk-cut js (next j n u) v (le-trans pos on) 0 l (omega arith) total keeps
 

@@ -1,36 +1,44 @@
--- All permitted lists in the order of the walk: job by job, the multiples of the period before in rising order. No public contract cites this.
--- Assumes nothing.
+-- The periods that a job may try after the one before, and all permitted lists in the order of the walk: job by job, those periods in
+-- rising order. No public contract cites this. Assumes nothing.
 use mathlib.Core.List.{List, [], _∷_, map, flatMap}
 use Prim.Native.Nat.{ℕ, zero, suc, _+_, _*_, _-_, _/_}
 use Rattle.model.specs.declared.Seconds.{Seconds}
 use Rattle.model.specs.declared.Job.{Job}
 use Rattle.model.specs.Model.{seconds, roundUp}
 
+-- The periods that a job may try after `before` go from this one, the first multiple in its interval ..
+abbrev pub firstTry : Seconds → Job → Seconds
+firstTry before j = seconds (roundUp (j .lo .0) (before .0) * before .0)
+
+-- .. to this one, the last; where its interval holds none, the last is below the first.
+abbrev pub lastTry : Seconds → Job → Seconds
+lastTry before j = seconds (j .hi .0 / before .0 * before .0)
+
 -- `k` numbers from `t` on, each `step` above the one before it.
 unfoldable pub climb : ℕ → ℕ → ℕ → List Seconds
 climb step t zero = []
 climb step t (suc k) = seconds t ∷ climb step (t + step) k
 
--- The numbers t, t + before, t + 2 * before .. up to `hi`.
-unfoldable pub risingFrom : Seconds → Seconds → ℕ → List Seconds
-risingFrom before hi t = climb (before .0) t ((hi .0 + before .0 - t) / before .0)
+-- The numbers t, t + before, t + 2 * before .. up to `last`.
+unfoldable pub risingFrom : Seconds → Seconds → Seconds → List Seconds
+risingFrom before last t = climb (before .0) (t .0) ((last .0 + before .0 - t .0) / before .0)
 
--- The multiples of `before` in the job's interval, in rising order.
+-- The periods that a job may try, in rising order.
 unfoldable pub multiples : Seconds → Job → List Seconds
-multiples before j = risingFrom before (j .hi) (roundUp (j .lo .0) (before .0) * before .0)
+multiples before j = risingFrom before (lastTry before j) (firstTry before j)
 
 -- `k` numbers from `t` on, each `step` below the one before it.
 unfoldable pub descend : ℕ → ℕ → ℕ → List Seconds
 descend step t zero = []
 descend step t (suc k) = seconds t ∷ descend step (t - step) k
 
--- The numbers t, t - before, t - 2 * before .. down to `lo`.
-unfoldable pub fallingFrom : Seconds → Seconds → ℕ → List Seconds
-fallingFrom before lo t = descend (before .0) t ((t + before .0 - lo .0) / before .0)
+-- The numbers t, t - before, t - 2 * before .. down to `first`.
+unfoldable pub fallingFrom : Seconds → Seconds → Seconds → List Seconds
+fallingFrom before first t = descend (before .0) (t .0) ((t .0 + before .0 - first .0) / before .0)
 
--- The multiples of `before` in the job's interval, in falling order.
+-- The periods that a job may try, in falling order.
 unfoldable pub multiplesDown : Seconds → Job → List Seconds
-multiplesDown before j = fallingFrom before (j .lo) (j .hi .0 / before .0 * before .0)
+multiplesDown before j = fallingFrom before (firstTry before j) (lastTry before j)
 
 -- One list for each way to give every job one of its periods, where `periods before j` lists those of a job.
 unfoldable pub chainsBy : (Seconds → Job → List Seconds) → Seconds → List Job → List (List Seconds)

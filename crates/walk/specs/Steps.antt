@@ -6,7 +6,8 @@ use Prim.Native.Nat.{ℕ, _+_, _*_, _/_, _%_, _≤_, _<_}
 use lib.ListN.{getD, take}
 use Rattle.model.specs.declared.Seconds.{Seconds}
 use Rattle.model.specs.declared.Job.{Job}
-use Rattle.model.specs.Model.{seconds, pagesPerHour}
+use Rattle.model.specs.Model.{seconds, pagesPerHour, roundUp}
+use Rattle.walk.specs.declared.Tries.{Tries}
 use Rattle.step.specs.Step.{lossAt, LossFits, Bounded}
 use Rattle.walk.specs.Walk.{node, walk, lossFloor}
 use Rattle.walk.specs.Arrays.{Held}
@@ -18,6 +19,18 @@ lossHeld runs rates weights i t = lossAt (getD weights i 0) (pagesPerHour (getD 
 -- The numbers for which that fits.
 abbrev pub LossHeldFits : List ℕ → List ℕ → List ℕ → ℕ → Seconds → Type 0
 LossHeldFits runs rates weights i t = LossFits (getD weights i 0) (pagesPerHour (getD rates i 0)) (getD runs (8 + i) 0) t
+
+-- The periods that the job at place i may try after `step`, by its interval.
+abbrev pub triesHeld : List ℕ → ℕ → Seconds → Tries
+triesHeld spans i step = record { first = seconds (roundUp (getD spans i 0) (step .0) * step .0); last = seconds (getD spans (8 + i) 0 / step .0 * step .0) }
+
+-- An interval within the hour stands at place i, and `step` is a period.
+pub record MayTry (spans : List ℕ) (i : ℕ) (step : Seconds) : Type 0 where
+  pub place : i < 8
+  pub from : 1 ≤ step .0
+  pub to : step .0 ≤ 3600
+  pub shortest-to : getD spans i 0 ≤ 3600
+  pub longest-to : getD spans (8 + i) 0 ≤ 3600
 
 -- The intervals from place i to place n end within the hour, and t is a period.
 pub record Ends (spans : List ℕ) (i n : ℕ) (t : Seconds) : Type 0 where
@@ -33,11 +46,12 @@ Unreached spans i n t = (k : ℕ) × (i ≤ k) × (k < n) × (getD spans (8 + k)
 abbrev pub PassedOver : ℕ → ℕ → Type 0
 PassedOver a first = (d : ℕ) × (first ≤ d) × (d < a) × (a % d ≡ 0)
 
--- The job at place i has no pages for need and none for loss, so at multiplier a it repeats what it had at a smaller one.
-pub record Repeats (runs : List ℕ) (i a first : ℕ) : Type 0 where
+-- The job at place i has no pages for need and none for loss, so at period t, a multiple of `step`, it repeats what it had at a smaller
+-- one from `first` on.
+pub record Repeats (runs : List ℕ) (i : ℕ) (step first t : Seconds) : Type 0 where
   pub for-need : getD runs i 0 ≡ 0
   pub for-loss : getD runs (8 + i) 0 ≡ 0
-  pub passed : PassedOver a first
+  pub passed : PassedOver (t .0 / step .0) (first .0 / step .0)
 
 module _ (spans runs rates weights : List ℕ) where
   -- Some jobs are so held, and t is a period.

@@ -6,7 +6,7 @@ use Rattle.model.specs.declared.Seconds.{Seconds}
 use Rattle.model.specs.declared.Job.{Job}
 use Rattle.model.specs.Model.{seconds, load, roundUp, jobLoss}
 use Rattle.step.specs.Step.{carried}
-use Rattle.walk.specs.Chains.{risingFrom, multiples, fallingFrom, multiplesDown}
+use Rattle.walk.specs.Chains.{firstTry, lastTry, risingFrom, multiples, fallingFrom, multiplesDown}
 
 -- What these jobs lose at least when every period is at least `t`.
 unfoldable pub lossFloor : List Job → ℕ → ℕ
@@ -55,9 +55,9 @@ walk = walkBy multiples
 abbrev pub walkDown : {A : Type 0} → (ℕ → ℕ → List Seconds → A → A) → List Job → Node → A → A
 walkDown = walkBy multiplesDown
 
--- The rest of the loop over a job's multiples: from `t` up, or from `t` down.
-unfoldable pub walkFrom : {A : Type 0} → (ℕ → ℕ → List Seconds → A → A) → Job → List Job → Node → ℕ → A → A
-walkFrom f j js n t acc = visit (λ u. walk f js (next j n u)) acc (risingFrom (n .before) (j .hi) t)
+-- The rest of the loop over a job's periods: from `t` up, or from `t` down.
+unfoldable pub walkFrom : {A : Type 0} → (ℕ → ℕ → List Seconds → A → A) → Job → List Job → Node → Seconds → A → A
+walkFrom f j js n t acc = visit (λ u. walk f js (next j n u)) acc (risingFrom (n .before) (lastTry (n .before) j) t)
 
-unfoldable pub walkDownFrom : {A : Type 0} → (ℕ → ℕ → List Seconds → A → A) → Job → List Job → Node → ℕ → A → A
-walkDownFrom f j js n t acc = visit (λ u. walkDown f js (next j n u)) acc (fallingFrom (n .before) (j .lo) t)
+unfoldable pub walkDownFrom : {A : Type 0} → (ℕ → ℕ → List Seconds → A → A) → Job → List Job → Node → Seconds → A → A
+walkDownFrom f j js n t acc = visit (λ u. walkDown f js (next j n u)) acc (fallingFrom (n .before) (firstTry (n .before) j) t)

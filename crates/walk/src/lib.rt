@@ -9,10 +9,14 @@ use model::Profile;
 use model::Seconds;
 ghost use mathlib.Core.Path.{_≡_};
 ghost use mathlib.Core.Bool.{true, false};
-ghost use Prim.Native.Nat.{_≤_, _<_, max};
+ghost use Prim.Native.Nat.{_+_, _*_, _/_, _≤_, _<_, max};
+ghost use lib.ListN.{getD};
+ghost use Rattle.model.specs.Model.{pagesPerHour};
+ghost use Rattle.model.specs.Most.{mostNeed, mostLoss};
 ghost use Rattle.model.specs.Valid.{Valid};
+ghost use Rattle.step.specs.Step.{needAt, NeedFits};
 ghost use Rattle.walk.specs.Arrays.{SecondsFrom, PagesFrom, RatesFrom, StiffnessesFrom};
-ghost use Rattle.walk.specs.Steps.{Ends, Unreached, PassedOver, Repeats, Later, IsLossFloor};
+ghost use Rattle.walk.specs.Steps.{lossHeld, LossHeldFits, triesHeld, MayTry, Ends, Unreached, PassedOver, Repeats, Later, IsLossFloor};
 
 // The shortest periods of the jobs, then the longest.
 pub fn seconds_of(p: Profile) -> [u32; 16]
@@ -79,6 +83,53 @@ pub fn stiffnesses_of(p: Profile) -> [u32; 8]
     stiffnesses
 }
 
+// The periods that a job may try after one of `step` seconds: from `first` to `last`, each a step above the one before; none
+// where `last` is below `first`.
+pub struct Tries {
+    pub first: Seconds,
+    pub last: Seconds,
+}
+
+// The periods that job i may try: the multiples of `step` in its interval.
+pub fn to_try(seconds: &[u32; 16], i: usize, step: Seconds) -> Tries
+    requires { ⌜ MayTry (now seconds) i step ⌝ }
+    ensures { λ r. ⌜ r ≡ triesHeld (now (seconds .entry)) i step ⌝ }
+{
+    let lo = seconds[i];
+    let hi = seconds[8 + i];
+    Tries {
+        first: Seconds((lo + (step.0 - 1)) / step.0 * step.0),
+        last: Seconds(hi / step.0 * step.0),
+    }
+}
+
+// The loss so far with that of job i at period t.
+pub fn lost_with(
+    pages: &[u32; 16],
+    rates: &[u32; 17],
+    stiffnesses: &[u32; 8],
+    i: usize,
+    lost: u64,
+    t: Seconds,
+) -> u64
+    requires { ⌜ i < 8 ⌝ }
+    requires { ⌜ lost ≤ mostLoss * i ⌝ }
+    requires { ⌜ LossHeldFits (now pages) (now rates) (now stiffnesses) i t ⌝ }
+    ensures { λ r. ⌜ r ≡ lost + lossHeld (now (pages .entry)) (now (rates .entry)) (now (stiffnesses .entry)) i t ⌝ }
+{
+    lost + step::job_loss(stiffnesses[i], PagesPerHour(rates[i]), pages[8 + i], t)
+}
+
+// The least need of plans that write so many pages in t seconds, with jobs from place i on still to come.
+pub fn need_floor(rates: &[u32; 17], i: usize, t: Seconds, written: u64) -> PagesPerHour
+    requires { ⌜ i ≤ 8 ⌝ }
+    requires { ⌜ NeedFits written t ⌝ }
+    requires { ⌜ needAt written t + getD (now rates) (8 + i) 0 ≤ mostNeed ⌝ }
+    ensures { λ r. ⌜ r ≡ pagesPerHour (needAt written t + getD (now (rates .entry)) (8 + i) 0) ⌝ }
+{
+    PagesPerHour(step::need_of(written, t).0 + rates[8 + i])
+}
+
 // The lowest loss that jobs i to n can come to when no period is shorter than t.
 pub fn loss_floor(
     seconds: &[u32; 16],
@@ -117,12 +168,13 @@ pub fn reaches(seconds: &[u32; 16], i: usize, n: usize, t: Seconds) -> bool
     true
 }
 
-// Whether job i, which `first` times the period before is the first to reach, can be passed over at `a` times that: it has
-// no pages, so a smaller multiplier that divides a takes every completion at the same need and loss.
-pub fn repeats(pages: &[u32; 16], i: usize, a: u32, first: u32) -> bool
+// Whether job i, which may try the multiples of `step` from `first` on, can be passed over at t: it has no pages, so a smaller
+// one of these that divides t takes every completion at the same need and loss.
+pub fn repeats(pages: &[u32; 16], i: usize, step: Seconds, first: Seconds, t: Seconds) -> bool
     requires { ⌜ i < 8 ⌝ }
-    requires { ⌜ 1 ≤ first ⌝ }
-    ensures { λ r. ⌜ (r ≡ true → Repeats (now (pages .entry)) i a first) ⌝ }
+    requires { ⌜ 1 ≤ step .0 ⌝ }
+    requires { ⌜ 1 ≤ first .0 / step .0 ⌝ }
+    ensures { λ r. ⌜ (r ≡ true → Repeats (now (pages .entry)) i step first t) ⌝ }
 {
     if pages[i] != 0 {
         return false;
@@ -130,7 +182,7 @@ pub fn repeats(pages: &[u32; 16], i: usize, a: u32, first: u32) -> bool
     if pages[8 + i] != 0 {
         return false;
     }
-    passed_over(a, first)
+    passed_over(t.0 / step.0, first.0 / step.0)
 }
 
 // Whether some number from `first` on, below a, divides a: the largest that divides a is a by its smallest factor.

@@ -2,8 +2,8 @@
 -- Assumes nothing.
 use mathlib.Core.Path.{_≡_}
 use Prim.Native.Nat.{ℕ}
-use borrow.Author.Needs.{needs}
 use native.Mathlib.Omega.{arith}
+use borrow.Author.Needs.{needs}
 use Rattle.walk.proofs.repeats.Statement.{statement}
 use Rattle.walk.proofs.repeats.Tie as tie
 
@@ -28,11 +28,19 @@ element-copy-out-if2 c = search needs
 returns-2 : tie.Need-returns-2
 returns-2 c = λ e. (let z : _≡_ {A = ℕ} 0 1 = cc in absurd (omega arith))
 
+div-passed-over : tie.Need-div-passed-over
+div-passed-over c = search needs
+
+div-passed-over-2 : tie.Need-div-passed-over-2
+div-passed-over-2 c = search needs
+
 passed-over-requires : tie.Need-passed-over-requires
 passed-over-requires c κs = search needs
 
 returns-3 : tie.Need-returns-3
-returns-3 c = λ e. record { for-need = c .before .before .before .if1 .left; for-loss = c .before .if2 .left; passed = c .passed-over .ensures e }
+returns-3 c = λ e.
+    (let some = c .before .before .before .before .before in
+    record { for-need = some .before .before .if1 .left; for-loss = some .if2 .left; passed = c .passed-over .ensures e })
 
 pub repeats-spec : {M : Type 1} → statement M
 repeats-spec =
@@ -45,5 +53,7 @@ repeats-spec =
     mul-if2
     element-copy-out-if2
     returns-2
+    div-passed-over
+    div-passed-over-2
     passed-over-requires
     returns-3)
