@@ -24,7 +24,7 @@ pub struct Choice {
 }
 
 // More than any need: nothing found yet.
-const NO_NEED: u32 = 0xffff_ffff;
+const NO_NEED: PagesPerHour = PagesPerHour(0xffff_ffff);
 
 // The best periods for a budget; the profile's own refusal, then 9, then 10 with the least budget that would do.
 pub fn choose(p: Profile, budget: PagesPerHour) -> Choice
@@ -67,20 +67,11 @@ fn choose_sound(p: Profile, budget: PagesPerHour) -> Choice
     if best[LOSS] != NO_PLAN {
         return plan(n, &best);
     }
-    let least = choose_walk::least_need(
-        &seconds,
-        &pages,
-        &rates,
-        0,
-        n,
-        Seconds(1),
-        0,
-        PagesPerHour(NO_NEED),
-    ).0;
-    if least == NO_NEED {
+    let least = choose_walk::least_need(&seconds, &pages, &rates, 0, n, Seconds(1), 0, NO_NEED);
+    if least.0 == NO_NEED.0 {
         return refusal(Verdict::NoPeriods);
     }
-    refusal(Verdict::Budget(PagesPerHour(least)))
+    refusal(Verdict::Budget(least))
 }
 
 // A best plan as an answer, with zeros beyond its n periods.

@@ -2,6 +2,8 @@
 -- Assumes nothing.
 use borrow.Author.Needs.{needs}
 use mathlib.Core.Path.{refl}
+use Rattle.model.specs.Model.{jobsOf}
+use Rattle.walk.specs.Arrays.{Held}
 use Rattle.walk.proofs.Filled.{all-held}
 use Rattle.walk.proofs.Cuts.{ready-start}
 use Rattle.choose.proofs.Answered.{plan-small, plan-right, none-right, least-right}
@@ -27,44 +29,62 @@ stiffnesses-of-requires c κs = search needs
 array-write-best : tie.Need-array-write-best
 array-write-best c = search needs
 
+-- the arrays hold the jobs
+held : (c : tie.After-stiffnesses-of) →
+    Held (c .before .before .before .seconds-of .result) (c .before .before .pages-of .result) (c .before .rates-of .result) (c .stiffnesses-of .result)
+    0 (c .before .before .before .before .before .args .p .n) (jobsOf (c .before .before .before .before .before .args .p))
+held c =
+    let s = c .before .before .before .before .before in
+    all-held (s .pre) (c .before .before .before .seconds-of .ensures) (c .before .before .pages-of .ensures) (c .before .rates-of .ensures) (c .stiffnesses-of .ensures)
+
 find-best-requires : tie.Need-find-best-requires
 find-best-requires c κs =
-    let held = all-held (c .before .before .before .before .before .before .before .before .before .before .before .pre) (c .before .before .before .before .before .before .before .before .before .seconds-of .ensures) (c .before .before .before .before .before .before .before .before .pages-of .ensures) (c .before .before .before .before .before .before .before .rates-of .ensures) (c .before .before .before .before .before .before .stiffnesses-of .ensures) in
-    (ready-start held, record { count = held .most; periods-size = refl; best-size = refl })
+    let h = held (c .before .before .before .before .before .before) in
+    (ready-start h, record { count = h .most; periods-size = refl; best-size = refl })
 
 array-read-if1 : tie.Need-array-read-if1
 array-read-if1 c = search needs
 
 plan-requires : tie.Need-plan-requires
 plan-requires c κs =
-    let held = all-held (c .before .before .before .before .before .before .before .before .before .before .before .before .before .before .pre) (c .before .before .before .before .before .before .before .before .before .before .before .before .seconds-of .ensures) (c .before .before .before .before .before .before .before .before .before .before .before .pages-of .ensures) (c .before .before .before .before .before .before .before .before .before .before .rates-of .ensures) (c .before .before .before .before .before .before .before .before .before .stiffnesses-of .ensures) in
-    plan-small held (c .before .before .find-best .ensures) refl (omega (arith, c .before .before .before .before .before .before .before .before .before .before .before .before .before .before .good)) (c .before .if1 .taken)
+    let found = c .before .before in
+    let made = found .before .before .before .before .before .before .before in
+    let s = made .before .before .before .before .before in
+    plan-small (held made) (found .find-best .ensures) refl (omega (arith, s .good)) (c .before .if1 .taken)
 
 returns : tie.Need-returns
 returns c =
-    let held = all-held (c .before .before .before .before .before .before .before .before .before .before .before .before .before .before .before .pre) (c .before .before .before .before .before .before .before .before .before .before .before .before .before .seconds-of .ensures) (c .before .before .before .before .before .before .before .before .before .before .before .before .pages-of .ensures) (c .before .before .before .before .before .before .before .before .before .before .before .rates-of .ensures) (c .before .before .before .before .before .before .before .before .before .before .stiffnesses-of .ensures) in
-    rw (c .plan .ensures) (plan-right held (c .before .before .before .find-best .ensures) refl (c .before .before .if1 .taken))
+    let found = c .before .before .before in
+    let made = found .before .before .before .before .before .before .before in
+    rw (c .plan .ensures) (plan-right (held made) (found .find-best .ensures) refl (c .before .before .if1 .taken))
 
 least-need-requires : tie.Need-least-need-requires
 least-need-requires c κs =
-    let held = all-held (c .before .before .before .before .before .before .before .before .before .before .before .before .before .before .before .before .pre) (c .before .before .before .before .before .before .before .before .before .before .before .before .before .before .seconds-of .ensures) (c .before .before .before .before .before .before .before .before .before .before .before .before .before .pages-of .ensures) (c .before .before .before .before .before .before .before .before .before .before .before .before .rates-of .ensures) (c .before .before .before .before .before .before .before .before .before .before .before .stiffnesses-of .ensures) in
-    record { weights = _; ready = ready-start held }
+    let found = c .before .before .before .before in
+    let made = found .before .before .before .before .before .before .before in
+    record { weights = _; ready = ready-start (held made) }
 
 refusal-requires : tie.Need-refusal-requires
 refusal-requires c κs = search needs
 
 returns-2 : tie.Need-returns-2
 returns-2 c =
-    let held = all-held (c .before .before .before .before .before .before .before .before .before .before .before .before .before .before .before .before .before .before .before .pre) (c .before .before .before .before .before .before .before .before .before .before .before .before .before .before .before .before .before .seconds-of .ensures) (c .before .before .before .before .before .before .before .before .before .before .before .before .before .before .before .before .pages-of .ensures) (c .before .before .before .before .before .before .before .before .before .before .before .before .before .before .before .rates-of .ensures) (c .before .before .before .before .before .before .before .before .before .before .before .before .before .before .stiffnesses-of .ensures) in
-    rw (c .refusal .ensures) (none-right held (c .before .before .before .before .before .before .before .find-best .ensures) refl (c .before .before .before .before .before .before .if1 .left) _ (c .before .before .least-need .ensures) (c .before .if2 .taken))
+    let lessened = c .before .before .before .before in
+    let none = lessened .before .before .before .before in
+    let found = none .before in
+    let made = found .before .before .before .before .before .before .before in
+    rw (c .refusal .ensures) (none-right (held made) (found .find-best .ensures) refl (none .if1 .left) _ (lessened .least-need .ensures) (c .before .if2 .taken))
 
 refusal-requires-2 : tie.Need-refusal-requires-2
 refusal-requires-2 c κs = search needs
 
 returns-3 : tie.Need-returns-3
 returns-3 c =
-    let held = all-held (c .before .before .before .before .before .before .before .before .before .before .before .before .before .before .before .before .before .before .before .pre) (c .before .before .before .before .before .before .before .before .before .before .before .before .before .before .before .before .before .seconds-of .ensures) (c .before .before .before .before .before .before .before .before .before .before .before .before .before .before .before .before .pages-of .ensures) (c .before .before .before .before .before .before .before .before .before .before .before .before .before .before .before .rates-of .ensures) (c .before .before .before .before .before .before .before .before .before .before .before .before .before .before .stiffnesses-of .ensures) in
-    rw (c .refusal2 .ensures) (least-right held (c .before .before .before .before .before .before .before .find-best .ensures) refl (c .before .before .before .before .before .before .if1 .left) _ (c .before .before .least-need .ensures) (c .before .if2 .left))
+    let lessened = c .before .before .before .before in
+    let none = lessened .before .before .before .before in
+    let found = none .before in
+    let made = found .before .before .before .before .before .before .before in
+    rw (c .refusal2 .ensures) (least-right (held made) (found .find-best .ensures) refl (none .if1 .left) _ (lessened .least-need .ensures) (c .before .if2 .left))
 
 pub choose-sound-spec : {M : Type 1} → statement M
 choose-sound-spec =
