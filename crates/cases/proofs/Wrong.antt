@@ -5,17 +5,24 @@ use mathlib.Core.List.{List, [], _∷_, _++_}
 use mathlib.Core.Bool.{false}
 use Prim.Native.Nat.{ℕ}
 use native.Mathlib.Omega.{arith}
-use lib.ListN.{getD}
+use lib.ListN.{length, getD}
 use lib.Dec.{eqb}
 use borrow.Author.Tests.{eqb-false}
 use Rattle.model.specs.declared.Profile.{Profile}
-use Rattle.model.specs.Model.{seconds, pagesPerHour}
+use Rattle.model.specs.declared.Counted.{Counted}
+use Rattle.model.specs.declared.Seconds.{Seconds}
+use Rattle.model.specs.declared.Verdict.the-variants.{Sound}
+use Rattle.model.specs.Model.{seconds, pagesPerHour, jobsOf, verdictOf, rowsVerdict, PutsRows}
+use Rattle.model.proofs.Verdicts.{beside-sound, both-sound}
 use Rattle.profile_write.specs.Writing.{Writes}
-use Rattle.zones.specs.Zones.{Listed}
-use Rattle.table.specs.Table.{Built}
+use Rattle.zone_walk.specs.Zone.{Zone}
+use Rattle.zones.specs.Zones.{ZonesOf, Listed}
+use Rattle.zones.proofs.OneOutcome.{zones-one}
+use Rattle.table.specs.Table.{TableOf, Built}
+use Rattle.table.proofs.OneOutcome.{table-one}
 use Rattle.cases.specs.Case.{writingIn, choosing, listingIn, buildingIn, plan, number, lent, rows}
-use Rattle.cases.specs.Cases.{profileA, atSeven, bytesA, tableA, zonesA}
-use Rattle.cases.specs.Wrong.{Chooser, ChoosesFor, RefusesEverything, GivesOnePlan, Writer, WritesBy, StoresNothing, RepeatsFirstRow, InventsCount}
+use Rattle.cases.specs.Cases.{profileA, oneList, bytesA, tableA, zonesA}
+use Rattle.cases.specs.Wrong.{Chooser, ChoosesFor, RefusesEverything, GivesOnePlan, Filler, MeetsAt, StoresNothing, RepeatsFirstRow, InventsCount}
 use Rattle.cases.proofs.Worked.{Computed, right}
 
 -- equal things do not differ in a number
@@ -31,23 +38,23 @@ at-5400 : (f : Chooser) → ChoosesFor profileA 5400 f → f profileA (pagesPerH
 unfolding Computed
 at-5400 f = right (choosing profileA 5400 (plan 5400 864676 (20 ∷ 60 ∷ 60 ∷ []))) refl _
 
-nine-rows : (f : Writer) → WritesBy Built profileA (lent 144) f → (f profileA (lent 144) .0 ≡ number 9) × (f profileA (lent 144) .1 ≡ tableA)
+nine-rows : (f : Filler) → MeetsAt Built profileA (lent 144) f → (f profileA (lent 144) .0 ≡ number 9) × (f profileA (lent 144) .1 ≡ tableA)
 unfolding Computed
 nine-rows f = right (buildingIn profileA (lent 144) (number 9) tableA) refl _ _
 
-one-row : (f : Writer) → WritesBy Built atSeven (lent 144) f → f atSeven (lent 144) .0 ≡ number 1
+one-row : (f : Filler) → MeetsAt Built oneList (lent 144) f → f oneList (lent 144) .0 ≡ number 1
 unfolding Computed
-one-row f meets = right (buildingIn atSeven (lent 144) (number 1) (rows ((0x00 ∷ 0x00 ∷ 0x02 ∷ 0x03 ∷ 0x00 ∷ 0x70 ∷ []) ∷ []) ++ lent 128)) refl _ _ meets .0
+one-row f meets = right (buildingIn oneList (lent 144) (number 1) (rows ((0x00 ∷ 0x00 ∷ 0x11 ∷ 0x47 ∷ 0x00 ∷ 0x10 ∷ 0x05 ∷ 0x02 ∷ 0x30 ∷ []) ∷ []) ++ lent 128)) refl _ _ meets .0
 
-three-zones : (f : Writer) → WritesBy Listed profileA (lent 48) f → f profileA (lent 48) .0 ≡ number 3
+three-zones : (f : Filler) → MeetsAt Listed profileA (lent 48) f → f profileA (lent 48) .0 ≡ number 3
 unfolding Computed
 three-zones f meets = right (listingIn profileA (lent 48) (number 3) zonesA) refl _ _ meets .0
 
-one-zone : (f : Writer) → WritesBy Listed atSeven (lent 48) f → f atSeven (lent 48) .0 ≡ number 1
+one-zone : (f : Filler) → MeetsAt Listed oneList (lent 48) f → f oneList (lent 48) .0 ≡ number 1
 unfolding Computed
-one-zone f meets = right (listingIn atSeven (lent 48) (number 1) (rows ((0x00 ∷ 0x70 ∷ 0x07 ∷ []) ∷ []) ++ lent 32)) refl _ _ meets .0
+one-zone f meets = right (listingIn oneList (lent 48) (number 1) (rows ((0x00 ∷ 0x10 ∷ 0x01 ∷ 0x00 ∷ 0x50 ∷ 0x23 ∷ []) ∷ []) ++ lent 32)) refl _ _ meets .0
 
-bytes-of-A : (f : Writer) → WritesBy Writes profileA (lent 25) f → (f profileA (lent 25) .0 ≡ number 25) × (f profileA (lent 25) .1 ≡ bytesA)
+bytes-of-A : (f : Filler) → MeetsAt Writes profileA (lent 25) f → (f profileA (lent 25) .0 ≡ number 25) × (f profileA (lent 25) .1 ≡ bytesA)
 unfolding Computed
 bytes-of-A f = right (writingIn profileA (lent 25) (number 25) bytesA) refl _ _
 
@@ -63,30 +70,49 @@ no-fixed-plan f fixed meets meets-more =
     let same = fixed profileA (pagesPerHour 4320) (pagesPerHour 5400) (rw one refl) (rw other refl) in
     differ (λ ts. getD ts 0 (seconds 0) .0) (rw (one, other) at same) refl
 
-pub no-rowless-builder : (f : Writer) → StoresNothing f → WritesBy Built profileA (lent 144) f → ⊥
+pub no-rowless-builder : (f : Filler) → StoresNothing f → MeetsAt Built profileA (lent 144) f → ⊥
 no-rowless-builder f nothing meets =
     let is = nine-rows f meets in
     differ (λ bytes. getD bytes 0 0) (sym (is .1) ∙ nothing profileA (lent 144) (rw (is .0) refl)) refl
 
-pub no-row-repeater : (f : Writer) → RepeatsFirstRow f → WritesBy Built profileA (lent 144) f → ⊥
+pub no-row-repeater : (f : Filler) → RepeatsFirstRow f → MeetsAt Built profileA (lent 144) f → ⊥
 no-row-repeater f repeats meets =
     let is = nine-rows f meets in
-    let same = repeats profileA (lent 144) 1 (rw (is .0) (omega arith)) in
+    let same = repeats profileA (lent 144) (rw (is .0) refl) 1 (rw (is .0) (omega arith)) in
     differ (λ row. getD row 3 0) (rw (is .1) at same) refl
 
 -- of two profiles, one count is told where the contract allows two
-two-counts : (f : Writer) → InventsCount f → (p q : Profile) (old : List ℕ) (k l : ℕ) → f p old .0 ≡ number k → f q old .0 ≡ number l → eqb k l ≡ false → ⊥
-two-counts f invents p q old k l one other unequal =
-    let same = invents p q old (rw one refl) (rw other refl) in
+two-counts : (f : Filler) → InventsCount f → (p q : Profile) (old : List ℕ) (k l : ℕ) → p .n ≡ q .n → f p old .0 ≡ number k → f q old .0 ≡ number l → eqb k l ≡ false → ⊥
+two-counts f invents p q old k l jobs one other unequal =
+    let same = invents p q old jobs (rw one refl) (rw other refl) in
     eqb-false k l unequal (rw (one, other) at same)
 
-pub no-invented-row-count : (f : Writer) → InventsCount f → WritesBy Built profileA (lent 144) f → WritesBy Built atSeven (lent 144) f → ⊥
-no-invented-row-count f invents meets meets-more = two-counts f invents profileA atSeven (lent 144) 9 1 (nine-rows f meets .0) (one-row f meets-more) refl
+pub no-invented-row-count : (f : Filler) → InventsCount f → MeetsAt Built profileA (lent 144) f → MeetsAt Built oneList (lent 144) f → ⊥
+no-invented-row-count f invents meets meets-more = two-counts f invents profileA oneList (lent 144) 9 1 refl (nine-rows f meets .0) (one-row f meets-more) refl
 
-pub no-invented-zone-count : (f : Writer) → InventsCount f → WritesBy Listed profileA (lent 48) f → WritesBy Listed atSeven (lent 48) f → ⊥
-no-invented-zone-count f invents meets meets-more = two-counts f invents profileA atSeven (lent 48) 3 1 (three-zones f meets) (one-zone f meets-more) refl
+pub no-invented-zone-count : (f : Filler) → InventsCount f → MeetsAt Listed profileA (lent 48) f → MeetsAt Listed oneList (lent 48) f → ⊥
+no-invented-zone-count f invents meets meets-more = two-counts f invents profileA oneList (lent 48) 3 1 refl (three-zones f meets) (one-zone f meets-more) refl
 
-pub no-idle-writer : (f : Writer) → StoresNothing f → WritesBy Writes profileA (lent 25) f → ⊥
+pub no-idle-writer : (f : Filler) → StoresNothing f → MeetsAt Writes profileA (lent 25) f → ⊥
 no-idle-writer f nothing meets =
     let is = bytes-of-A f meets in
     differ (λ bytes. getD bytes 0 0) (sym (is .1) ∙ nothing profileA (lent 25) (rw (is .0) refl)) refl
+
+-- A count is not invented at any input: beside a sound verdict it is the length of the one list of rows, or of zones.
+
+-- where rows are put, the profile is sound and the count is theirs
+counted-rows : {p : Profile} {k : ℕ} {front old new : List ℕ} {r : Counted} → PutsRows p k front old r new → r .verdict ≡ Sound → (verdictOf p ≡ Sound) × (r .count ≡ k)
+unfolding rowsVerdict
+counted-rows {p} {k} puts sound =
+    let v = sym (puts .verdict) ∙ sound in
+    (both-sound (verdictOf p) v .0, puts .count ∙ sym (beside-sound k 0 (sym v)))
+
+pub count-of-rows : {p : Profile} {old new : List ℕ} {r : Counted} → Built p old r new → r .verdict ≡ Sound → {rs : List (List Seconds)} → TableOf (jobsOf p) rs → r .count ≡ length rs
+count-of-rows {p} built sound table =
+    let is = counted-rows (built .puts) sound in
+    is .1 ∙ ap length (table-one (jobsOf p) (built .are (is .0)) table)
+
+pub count-of-zones : {p : Profile} {old new : List ℕ} {r : Counted} → Listed p old r new → r .verdict ≡ Sound → {zs : List Zone} → ZonesOf (jobsOf p) zs → r .count ≡ length zs
+count-of-zones {p} listed sound zones =
+    let is = counted-rows (listed .puts) sound in
+    is .1 ∙ ap length (zones-one (jobsOf p) (listed .are (is .0)) zones)

@@ -1,4 +1,4 @@
--- Document 01's numbers as one list: an entry says what is asked, of which profile, and what must come out.
+-- Document 01's numbers, and some more of the kind, as one list: an entry says what is asked, of which profile, and what must come out.
 -- Assumes nothing.
 use mathlib.Core.List.{List, [], _∷_, _++_, map}
 use Prim.Native.Nat.{ℕ}
@@ -24,6 +24,10 @@ bytesA = 0x13 ∷ 0x01 ∷ 0x40 ∷ 0x19 ∷ 0x00 ∷ 0x12 ∷ 0x00 ∷ 0x04 ∷
 -- One job at 7 seconds (P8).
 abbrev pub atSeven : Profile
 atSeven = profile (interval 7 7 ∷ [])
+
+-- Three jobs that one list of periods alone suits (P6).
+abbrev pub oneList : Profile
+oneList = profile (interval 1 1 ∷ interval 2 6 ∷ interval 35 35 ∷ [])
 
 -- A's table: the rows at 4,320, 4,500, 5,143 and 5,400, and the whole.
 abbrev pub row₁ : List ℕ
@@ -122,9 +126,9 @@ cases =
     -- P5
     ∷ listing profileA (number 3) zonesA
     -- P6
-    ∷ permitting (profile (interval 1 1 ∷ interval 2 6 ∷ interval 35 35 ∷ [])) Sound (map (map seconds) ((1 ∷ 5 ∷ 35 ∷ []) ∷ []))
-    ∷ choosing (profile (interval 1 1 ∷ interval 2 6 ∷ interval 35 35 ∷ [])) 0xffff_ffff (plan 4423 1166400 (1 ∷ 5 ∷ 35 ∷ []))
-    ∷ listing (profile (interval 1 1 ∷ interval 2 6 ∷ interval 35 35 ∷ [])) (number 1) (rows ((0x00 ∷ 0x10 ∷ 0x01 ∷ 0x00 ∷ 0x50 ∷ 0x23 ∷ []) ∷ []))
+    ∷ permitting oneList Sound (map (map seconds) ((1 ∷ 5 ∷ 35 ∷ []) ∷ []))
+    ∷ choosing oneList 0xffff_ffff (plan 4423 1166400 (1 ∷ 5 ∷ 35 ∷ []))
+    ∷ listing oneList (number 1) (rows ((0x00 ∷ 0x10 ∷ 0x01 ∷ 0x00 ∷ 0x50 ∷ 0x23 ∷ []) ∷ []))
     -- P7
     ∷ choosing (profile (interval 1 1 ∷ interval 2 4 ∷ interval 35 35 ∷ [])) 0xffff_ffff (refused NoPeriods)
     ∷ listing (profile (interval 1 1 ∷ interval 2 4 ∷ interval 35 35 ∷ [])) (noNumber NoPeriods) []

@@ -11,11 +11,12 @@ use Rattle.model.specs.declared.Verdict.{Verdict}
 use Rattle.model.specs.declared.Counted.{Counted}
 use Rattle.model.specs.Model.{seconds, noJob, entries, numberOf, detailOf, ifSound}
 
--- A verdict as one number: the refusal's number above 48 bits of detail. A detail that they do not hold is told as their greatest.
+-- A verdict as one number: the refusal's number above 48 bits of detail. A detail that they do not hold, which no input brings about,
+-- is told as their greatest.
 unfoldable pub resultOf : Verdict → ℕ
 resultOf v = numberOf v * 2 ^ 48 + min (detailOf v) (2 ^ 48 - 1)
 
--- A count as one number, or the refusal beside it.
+-- A count as one number, within 48 bits likewise, or the refusal beside it.
 unfoldable pub countedOf : Counted → ℕ
 countedOf c = ifSound (c .verdict) (min (c .count) (2 ^ 48 - 1)) (resultOf (c .verdict))
 

@@ -24,7 +24,7 @@ seconds t = record { 0 = t }
 abbrev pub pagesPerHour : ℕ → PagesPerHour
 pagesPerHour r = record { 0 = r }
 
--- A job of zeros: what stands in a place beyond the last job (Packing).
+-- A job of zeros: what reading puts in a place beyond the last job (Packing).
 abbrev pub noJob : Job
 noJob = record { lo = seconds 0; hi = seconds 0; «data» = 0; metadata = 0; stiffness = 0 }
 
@@ -161,7 +161,7 @@ unfoldable pub refuseIf : Bool → Verdict → Verdict → Verdict
 refuseIf true refusal rest = refusal
 refuseIf false refusal rest = rest
 
--- The first verdict if it is a refusal, else the second.
+-- The first verdict if it is a refusal; a sound one gives way to the second.
 unfoldable pub orElse : Verdict → Verdict → Verdict
 orElse v rest = refuseIf (eqb (numberOf v) 0) rest v
 
@@ -193,7 +193,7 @@ judgeJob j k = orElse (judgeIntervalAndStiffness j k) (refuseIf (ltb 32767 (j .�
 unfoldable pub verdictOf : Profile → Verdict
 verdictOf p = refuseIf (eqb (p .n) 0 || ltb 8 (p .n)) JobCount (firstRefused judgeJob 0 (jobsOf p))
 
--- An answer: the profile's own refusal with nothing beside it, and only then the rest (Refusal numbers, order).
+-- An answer: the profile's own refusal, shown as `refused` does, and only then the rest (Refusal numbers, order).
 pub record ProfileFirst {A : Type 0} (p : Profile) (refused : Verdict → A) (Rest : A → Type 0) (r : A) : Type 0 where
   pub own : (verdictOf p ≡ Sound → ⊥) → r ≡ refused (verdictOf p)
   pub sound : verdictOf p ≡ Sound → Rest r
@@ -206,7 +206,7 @@ rowSize = 16
 abbrev pub countVerdict : ℕ → ℕ → Verdict
 countVerdict count size = refuseIf (eqb count 0) NoPeriods (refuseIf (ltb (size / rowSize) count) (Room count) Sound)
 
--- The verdict on putting them there: the profile's own, then that on their count (Refusal numbers, order).
+-- The verdict on putting `count` rows into `size` lent bytes: the profile's own, then that (Refusal numbers, order).
 unfoldable pub rowsVerdict : Profile → ℕ → ℕ → Verdict
 rowsVerdict p count size = orElse (verdictOf p) (countVerdict count size)
 

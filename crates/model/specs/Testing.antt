@@ -1,5 +1,6 @@
 -- The test of a period: what `allowed` promises to inner functions, and what they promise in turn. proofs/Allowing.antt shows that it holds
--- exactly where the period is Allowed. No contract of an entry point cites this. Assumes nothing.
+-- exactly where the period is Allowed. Of entry points only the ladder's lines cite this, through
+-- specs/Judging.antt of score. Assumes nothing.
 use mathlib.Core.Bool.{Bool, not, _&&_}
 use Prim.Native.Nat.{_%_}
 use lib.Dec.{eqb, ltb}

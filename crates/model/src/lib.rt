@@ -58,7 +58,7 @@ pub enum Verdict {
 // The bytes of a row, be it a table's or a zone's.
 pub const ROW_SIZE: usize = 16;
 
-// What an operation that fills a lent buffer answers: how many bytes or rows it wrote, 0 beside a refusal.
+// A verdict and a number: how many bytes or rows were written, or which row answers, counted from 1; 0 beside a refusal.
 pub struct Counted {
     pub verdict: Verdict,
     pub count: u64,
