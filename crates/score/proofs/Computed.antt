@@ -28,11 +28,11 @@ unfoldable pub scoreFor : Profile → List Seconds → Scored
 scoreFor p ts = ifSound (verdictOf p) (scoredBy (jobsOf p) (periodsOf p ts) (firstUnpermitted 0 (seconds 1) (jobsOf p) (periodsOf p ts))) (refused (verdictOf p))
 
 -- as many periods as jobs
-pub as-many : (p : Profile) (ts : List Seconds) → length (jobsOf p) ≡ length (periodsOf p ts)
+as-many : (p : Profile) (ts : List Seconds) → length (jobsOf p) ≡ length (periodsOf p ts)
 as-many p ts = length-entries noJob (p .jobs) 0 (p .n) ∙ sym (length-entries (seconds 0) ts 0 (p .n))
 
 -- what the verdict on periods leaves
-pub judged-scores : (js : List Job) (ts : List Seconds) → length js ≡ length ts → Scoring js ts (scoredBy js ts (firstUnpermitted 0 (seconds 1) js ts))
+judged-scores : (js : List Job) (ts : List Seconds) → length js ≡ length ts → Scoring js ts (scoredBy js ts (firstUnpermitted 0 (seconds 1) js ts))
 unfolding scoredBy ifSound
 judged-scores js ts many =
     ⊎-elim

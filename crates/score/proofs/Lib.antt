@@ -1,3 +1,4 @@
 pub mod Computed
 pub mod OneOutcome
 pub mod Permission
+mod Turns

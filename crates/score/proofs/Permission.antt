@@ -1,27 +1,26 @@
 -- The periods are permitted, or 13 names the first that is not: each test of a period is one of its three conditions.
 -- Assumes nothing.
-use mathlib.Core.Path.{_≡_, refl, sym, _∙_, ap, ap₂, subst}
+use mathlib.Core.Path.{_≡_, refl, sym, _∙_, ap, subst}
 use mathlib.Core.List.{List, [], _∷_}
 use mathlib.Core.Bool.{Bool, true, false, not}
 use mathlib.Core.Logic.{_⊎_, inl, inr, ⊎-elim}
-use Prim.Native.Nat.{ℕ, _+_, _-_, _≤_, _<_}
+use Prim.Native.Nat.{ℕ, _+_}
 use native.Mathlib.Nat.{suc-ne-zero, suc-inj, zero-add}
 use native.Mathlib.Omega.{arith}
-use lib.ListN.{length, getD}
+use lib.ListN.{length}
 use borrow.Author.Tests.{eqb-false, not-false}
 use Rattle.model.specs.declared.Seconds.{Seconds}
 use Rattle.model.specs.declared.Job.{Job}
 use Rattle.model.specs.declared.Verdict.{Verdict}
 use Rattle.model.specs.declared.Verdict.the-variants.{Sound, Periods}
-use Rattle.model.specs.Model.{seconds, noJob, entries, Allowed, PermittedAfter, Permitted, refuseIf, orElse, numberOf}
+use Rattle.model.specs.Model.{seconds, Allowed, PermittedAfter, Permitted, refuseIf, orElse, numberOf}
 use Rattle.model.specs.Testing.{allows}
-use Rattle.model.proofs.Entries.{entries-step, entries-end}
 use Rattle.model.proofs.Allowing.{allowed, allowed-back}
 use Rattle.model.proofs.Verdicts.{test-passed, both-sound, sound-passes}
 use Rattle.score.specs.Scoring.{FirstOut, here, later}
 use Rattle.score.specs.Judging.{judgePeriod, firstUnpermitted}
 
-pub period-allowed : (j : Job) (before t : Seconds) (k : ℕ) → judgePeriod j before t k ≡ Sound → Allowed j before t
+period-allowed : (j : Job) (before t : Seconds) (k : ℕ) → judgePeriod j before t k ≡ Sound → Allowed j before t
 unfolding judgePeriod
 period-allowed j before t k e = allowed j before t (not-false _ (test-passed _ _ _ tt e .0))
 
@@ -100,13 +99,3 @@ one-first-out (here out) (here out′) = refl
 one-first-out (here out) (later a f) = absurd (out a)
 one-first-out (later a f) (here out) = absurd (out a)
 one-first-out (later a f) (later a′ f′) = ap (λ (n : ℕ). n + 1) (one-first-out f f′)
-
--- judging one period after the other
-module _ (before : Seconds) (xs : List Job) (ts : List Seconds) (k n : ℕ) where
-  pub one-judged : k < n → firstUnpermitted k before (entries noJob xs k (n - k)) (entries (seconds 0) ts k (n - k)) ≡ orElse (judgePeriod (getD xs k noJob) before (getD ts k (seconds 0)) (k + 1)) (firstUnpermitted (k + 1) (getD ts k (seconds 0)) (entries noJob xs (k + 1) (n - (k + 1))) (entries (seconds 0) ts (k + 1) (n - (k + 1))))
-  unfolding firstUnpermitted
-  one-judged h = ap₂ (firstUnpermitted k before) (entries-step noJob xs k n h) (entries-step (seconds 0) ts k n h)
-
-  pub all-judged : n ≤ k → firstUnpermitted k before (entries noJob xs k (n - k)) (entries (seconds 0) ts k (n - k)) ≡ Sound
-  unfolding firstUnpermitted
-  all-judged h = ap₂ (firstUnpermitted k before) (entries-end noJob xs k n h) (entries-end (seconds 0) ts k n h)

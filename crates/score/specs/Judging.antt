@@ -1,5 +1,5 @@
--- The verdict on periods as tests, one after the other: what the private functions promise. The lines of the ladder program ask
--- whether periods score, through `scoreVerdict`; no contract of the planner's face cites this. Assumes nothing.
+-- The verdict on periods as tests, one after the other, so that it can be computed: worked cases are told by it, and the lines of the
+-- ladder program ask whether periods score, through `scoreVerdict`. No contract of the planner's face cites this. Assumes nothing.
 use mathlib.Core.List.{List, [], _∷_}
 use mathlib.Core.Bool.{not}
 use Prim.Native.Nat.{ℕ, _+_}
