@@ -13,7 +13,7 @@ use Rattle.model.specs.declared.Profile.{Profile}
 use Rattle.model.specs.Model.{seconds, pagesPerHour, noJob, entries, jobsOf, periodsOf, load, Allowed, PermittedAfter, Permitted, lastOf, roundUp, need, jobLoss, loss}
 use Rattle.model.specs.Most.{mostPages}
 use Rattle.model.specs.Valid.{Valid}
-use Rattle.model.proofs.Bounds.{eight-losses}
+use Rattle.model.proofs.Bounds.{job-loss-bound, eight-losses}
 use Rattle.model.proofs.Entries.{entries-step, entries-end}
 use Rattle.model.proofs.Validity.{job-valid-at}
 use Rattle.step.specs.Step.{carried, pagesAfter, needAfter, needAt, NeedFits, Bounded}
@@ -71,29 +71,29 @@ module _ {p : Profile} {ts : List Seconds} {i : ℕ} {before : Seconds} {written
     pub along-allows : Permitted (jobsOf p) (periodsOf p ts) → Allowed (getD (p .jobs) i noJob) before (getD ts i (seconds 0))
     along-allows h = same one-more .0 (a .permitted .0 h) .0
 
-    -- and with an allowed period one goes on to the next
-    module _ (allowed : Allowed (getD (p .jobs) i noJob) before (getD ts i (seconds 0))) where
-      pub along-next : Along p ts (i + 1) (getD ts i (seconds 0)) (carried written before (getD ts i (seconds 0)) (load (getD (p .jobs) i noJob))) (lost + jobLoss (getD (p .jobs) i noJob) (getD ts i (seconds 0)))
-      unfolding pagesAfter lastOf loss
-      along-next =
-          let j = getD (p .jobs) i noJob in
-          let t = getD ts i (seconds 0) in
-          let valid = job-valid-at p i v less in
-          let js = entries-step noJob (p .jobs) i (p .n) less in
-          let us = entries-step (seconds 0) ts i (p .n) less in
-          record {
-            upto = omega (arith, v .n-to);
-            from = omega (arith, allowed .above, valid .lo-from);
-            to = omega (arith, allowed .below, valid .hi-to);
-            bounded = next-bounded (a .bounded) j t valid allowed;
-            permitted = (λ h. same one-more .0 (a .permitted .0 h) .1, λ h. a .permitted .1 (same one-more .1 (allowed, h)));
-            pages = a .pages ∙ ap₂ (pagesAfter written before) js us;
-            last = a .last ∙ ap (lastOf before) us;
-            losses = a .losses ∙ ap₂ (λ (ks : List Job) (ws : List Seconds). lost + loss ks ws) js us ∙ sym (add-assoc lost (jobLoss j t) _);
-          }
+    -- the loss with its own fits 64 bits, whatever its period
+    pub along-loss-fits : (t : Seconds) → lost + jobLoss (getD (p .jobs) i noJob) t < 2 ^ 64
+    along-loss-fits t = eight-losses _ (i + 1) (omega (arith, a .bounded .lost-to, job-loss-bound _ t (job-valid-at p i v less))) (omega (arith, v .n-to))
 
-      pub along-loss-fits : lost + jobLoss (getD (p .jobs) i noJob) (getD ts i (seconds 0)) < 2 ^ 64
-      along-loss-fits = eight-losses _ (i + 1) (along-next .bounded .lost-to) (omega (arith, v .n-to))
+    -- and with an allowed period one goes on to the next
+    pub along-next : Allowed (getD (p .jobs) i noJob) before (getD ts i (seconds 0)) → Along p ts (i + 1) (getD ts i (seconds 0)) (carried written before (getD ts i (seconds 0)) (load (getD (p .jobs) i noJob))) (lost + jobLoss (getD (p .jobs) i noJob) (getD ts i (seconds 0)))
+    unfolding pagesAfter lastOf loss
+    along-next allowed =
+        let j = getD (p .jobs) i noJob in
+        let t = getD ts i (seconds 0) in
+        let valid = job-valid-at p i v less in
+        let js = entries-step noJob (p .jobs) i (p .n) less in
+        let us = entries-step (seconds 0) ts i (p .n) less in
+        record {
+          upto = omega (arith, v .n-to);
+          from = omega (arith, allowed .above, valid .lo-from);
+          to = omega (arith, allowed .below, valid .hi-to);
+          bounded = next-bounded (a .bounded) j t valid allowed;
+          permitted = (λ h. same one-more .0 (a .permitted .0 h) .1, λ h. a .permitted .1 (same one-more .1 (allowed, h)));
+          pages = a .pages ∙ ap₂ (pagesAfter written before) js us;
+          last = a .last ∙ ap (lastOf before) us;
+          losses = a .losses ∙ ap₂ (λ (ks : List Job) (ws : List Seconds). lost + loss ks ws) js us ∙ sym (add-assoc lost (jobLoss j t) _);
+        }
 
   -- a place beyond the jobs
   module _ (past : p .n ≤ i) where

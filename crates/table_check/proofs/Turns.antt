@@ -4,7 +4,7 @@ use mathlib.Core.Path.{_≡_, refl, sym, _∙_, ap, ap₂, subst}
 use mathlib.Core.List.{List}
 use mathlib.Core.Logic.{⊎-elim}
 use mathlib.Core.Bool.{Bool, true, false, not, cond, _&&_}
-use Prim.Native.Nat.{ℕ, zero, suc, _+_, _^_, _≤_, _<_}
+use Prim.Native.Nat.{ℕ, zero, suc, _+_, _≤_, _<_}
 use native.Mathlib.Nat.{not-suc-le-zero, eq-or-lt-of-le, le-of-suc-le-suc}
 use native.Mathlib.Omega.{arith}
 use lib.ListN.{getD}
@@ -18,7 +18,7 @@ use Rattle.model.specs.Testing.{allows}
 use Rattle.model.specs.Valid.{Valid}
 use Rattle.model.proofs.Allowing.{both-true, allowed, allowed-back}
 use Rattle.step.specs.Step.{carried, needAt as needFrom}
-use Rattle.step.proofs.Along.{Along, along-starts, along-allows, along-next, along-loss-fits, along-beyond, along-permitted, along-need, along-lost}
+use Rattle.step.proofs.Along.{Along, along-starts, along-allows, along-next, along-beyond, along-permitted, along-need, along-lost}
 use Rattle.table_row.specs.declared.TableRow.{TableRow}
 use Rattle.table_row.specs.Table.{rowsIn, startAt, periodsAt, needAt, lossAt}
 use Rattle.table_row.specs.Cut.{rowAt, follows}
@@ -51,9 +51,6 @@ module _ {p : Profile} {ts : List Seconds} {before : Seconds} {written lost i : 
 
   pub next-place : allows (getD (p .jobs) i noJob) before (getD ts i (seconds 0)) ≡ true → PlacesLeft p ts (getD ts i (seconds 0)) (carried written before (getD ts i (seconds 0)) (load (getD (p .jobs) i noJob))) (lost + jobLoss (getD (p .jobs) i noJob) (getD ts i (seconds 0))) (i + 1)
   next-place e = record { along = along-next (l .along) v less (allowed _ before _ e); zeros = λ k past h. absurd (omega arith) }
-
-  pub loss-fits : allows (getD (p .jobs) i noJob) before (getD ts i (seconds 0)) ≡ true → lost + jobLoss (getD (p .jobs) i noJob) (getD ts i (seconds 0)) < 2 ^ 64
-  loss-fits e = along-loss-fits (l .along) v less (allowed _ before _ e)
 
 -- a place beyond the jobs
 pub next-zero : {p : Profile} {ts : List Seconds} {before : Seconds} {written lost i : ℕ} → PlacesLeft p ts before written lost i → p .n ≤ i → i < 8 → getD ts i (seconds 0) .0 ≡ 0 → PlacesLeft p ts before written lost (i + 1)

@@ -88,9 +88,8 @@ loss-with-requires c κs =
 
 add-lost : tie.Need-add-lost Inv-loop μ-loop
 add-lost c =
-    let e = c .before .before .before in
-    let i = e .before .before .before .before in
-    omega (arith, along-loss-fits (i .before .loop .inv .along) (i .before .before .pre) (i .loop-test .taken) (passed e), c .loss-with .ensures)
+    let i = c .before .before .before .before .before .before .before in
+    rw (c .loss-with .ensures) (record { fits = along-loss-fits (i .before .loop .inv .along) (i .before .before .pre) (i .loop-test .taken) _ })
 
 add-k : tie.Need-add-k Inv-loop μ-loop
 add-k c = search needs

@@ -14,8 +14,8 @@ use Rattle.model.specs.Testing.{allows}
 use Rattle.model.specs.Valid.{Valid}
 use Rattle.model.proofs.Validity.{job-valid-at}
 use Rattle.model.proofs.Allowing.{allowed}
-use Rattle.step.proofs.Along.{along-fits}
-use Rattle.table_check.proofs.Turns.{RowsLeft, PlacesLeft, Scanned, first-rows, first-places, loss-fits, place-off, next-place, next-zero, scanned-row, no-more, place-fails, zero-fails, start-fails, order-fails, next-row}
+use Rattle.step.proofs.Along.{along-fits, along-loss-fits}
+use Rattle.table_check.proofs.Turns.{RowsLeft, PlacesLeft, Scanned, first-rows, first-places, place-off, next-place, next-zero, scanned-row, no-more, place-fails, zero-fails, start-fails, order-fails, next-row}
 use Rattle.table_check.proofs.first_bad_row.Statement.{statement}
 use Rattle.table_check.proofs.first_bad_row.Tie as tie
 
@@ -123,7 +123,7 @@ add-lost : tie.Need-add-lost Inv-loop μ-loop Inv-rows μ-rows
 add-lost c =
     let e = c .before .before .before .before .before in
     let l = e .before .before .before in
-    omega (arith, loss-fits (valid l) (l .loop .inv) (e .if2 .left) (passed (c .before .before)), c .loss-with .ensures)
+    omega (arith, along-loss-fits (l .loop .inv .along) (valid l) (e .if2 .left) (periodHere (e .before .before)), c .loss-with .ensures)
 
 add-i-2 : tie.Need-add-i-2 Inv-loop μ-loop Inv-rows μ-rows
 add-i-2 c = search needs
