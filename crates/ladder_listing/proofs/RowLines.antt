@@ -7,10 +7,11 @@ use borrow.Author.Tests.{lt-ltb, le-ltb}
 use Rattle.model.specs.declared.Seconds.{Seconds}
 use Rattle.model.specs.declared.Profile.{Profile}
 use Rattle.model.specs.declared.Verdict.the-variants.{Sound}
-use Rattle.model.specs.Model.{jobsOf, periodsOf, loss, ifSound}
+use Rattle.model.specs.Model.{seconds, jobsOf, periodsOf, loss, ifSound}
+use Rattle.model.proofs.Bounds.{period-to}
+use Rattle.model.proofs.Entries.{getD-entries}
 use Rattle.model.proofs.Validity.{sound-valid}
 use Rattle.model.proofs.Verdicts.{Refuses, beside-sound, beside-refusal}
-use Rattle.sums.proofs.Scorable.{scorable}
 use Rattle.score.specs.declared.Scored.{Scored}
 use Rattle.score.specs.Scoring.{Scores}
 use Rattle.score.specs.Judging.{scoreVerdict}
@@ -26,7 +27,7 @@ use Rattle.ladder_line.specs.Writing.{Printable}
 pub scored-printable : (p : Profile) (ts : List Seconds) {s : Scored} → Scores p ts s → s .verdict ≡ Sound → Printable ts (p .n)
 scored-printable p ts s e =
     let v = sound-valid p (sound-own p ts s e) in
-    record { few = v .n-to; each = λ i h. scorable p ts i v (sound-allowed p ts s e) h .to }
+    record { few = v .n-to; each = λ i h. rw (getD-entries (seconds 0) ts h) at (period-to (seconds 1) (jobsOf p) (periodsOf p ts) (v .jobs) (sound-allowed p ts s e) i) }
 
 module _ (p : Profile) (table : List ℕ) (k : ℕ) where
   pub no-such-row : rowsIn table ≤ k → lineOfRow p table k ≡ []

@@ -1,15 +1,25 @@
 -- The one bound behind every sum: a job runs at most once a second, with at most 65,534 pages and a stiffness of at most 32.
 -- So eight jobs need at most 1,887,379,200 pages per hour and lose less than 2^64. Assumes nothing.
-use Prim.Native.Nat.{ℕ, _*_, _-_, _/_, _^_, _≤_, _<_}
+use Prim.Native.Nat.{ℕ, zero, suc, _*_, _-_, _/_, _^_, _≤_, _<_}
 use native.Mathlib.Omega.{arith}
 use native.Mathlib.Nat.{le-trans, mul-le-mul, mul-le-mul-left, pow-le-pow-left, pow-suc, pow-zero, one-mul, div-le-self, div-mul-le-self, le-div-iff-mul-le}
 use mathlib.Core.Path.{_≡_, _∙_, ap}
+use mathlib.Core.List.{List, [], _∷_}
+use lib.ListN.{getD}
 use Rattle.model.specs.declared.Seconds.{Seconds}
 use Rattle.model.specs.declared.Job.{Job}
-use Rattle.model.specs.Model.{load, cost, roundUp, rate, jobLoss}
+use Rattle.model.specs.Model.{seconds, load, cost, PermittedAfter, roundUp, rate, jobLoss}
 use Rattle.model.specs.Most.{mostPages, mostRate, mostLoss}
-use Rattle.model.specs.Valid.{ValidJob}
+use Rattle.model.specs.Valid.{ValidJob, ValidJobs}
 use Rattle.model.proofs.Rounding.{round-up-le}
+
+-- each permitted period is within the hour
+pub period-to : (before : Seconds) (js : List Job) (ts : List Seconds) → ValidJobs js → PermittedAfter before js ts → (i : ℕ) → getD ts i (seconds 0) .0 ≤ 3600
+period-to before [] [] v h i = omega arith
+period-to before [] (t ∷ ts) v h i = absurd h
+period-to before (j ∷ js) [] v h i = omega arith
+period-to before (j ∷ js) (t ∷ ts) v h zero = le-trans (h .0 .below) (v .0 .hi-to)
+period-to before (j ∷ js) (t ∷ ts) v h (suc i) = period-to t js ts (v .1) (h .1) i
 
 pub load-bound : (j : Job) → ValidJob j → load j ≤ mostPages
 unfolding load

@@ -3,7 +3,7 @@
 use mathlib.Core.Path.{_≡_, refl, sym, _∙_, ap, ap₂}
 use mathlib.Core.List.{List, [], _∷_, _++_, append-nil}
 use Prim.Native.Nat.{ℕ, zero, suc, _+_, _-_, _≤_, _<_}
-use native.Mathlib.Nat.{add-zero}
+use native.Mathlib.Nat.{zero-add, add-zero, not-suc-le-zero, le-of-suc-le-suc}
 use native.Mathlib.Omega.{arith}
 use lib.ListN.{length, getD, length-append}
 use lib.Seq.{getD-append-seam, append-snoc}
@@ -34,6 +34,18 @@ pub length-entries : {A : Type 0} (d : A) (xs : List A) (i k : ℕ) → length (
 unfolding entries
 length-entries d xs i zero = refl
 length-entries d xs i (suc k) = ap suc (length-entries d xs (i + 1) k)
+
+-- the entry at a place
+getD-from : {A : Type 0} (d : A) (xs : List A) (i n j : ℕ) → j < n → getD (entries d xs i n) j d ≡ getD xs (i + j) d
+unfolding entries
+getD-from d xs i zero j less = absurd (not-suc-le-zero less)
+getD-from d xs i (suc n) zero less = ap (λ (k : ℕ). getD xs k d) (sym (add-zero i))
+getD-from d xs i (suc n) (suc j) less =
+    let place : i + 1 + j ≡ i + suc j = omega arith in
+    getD-from d xs (i + 1) n j (le-of-suc-le-suc less) ∙ ap (λ (k : ℕ). getD xs k d) place
+
+pub getD-entries : {A : Type 0} (d : A) (xs : List A) {n j : ℕ} → j < n → getD (entries d xs 0 n) j d ≡ getD xs j d
+getD-entries d xs {n} {j} less = getD-from d xs 0 n j less ∙ ap (λ (k : ℕ). getD xs k d) (zero-add j)
 
 -- the entries that stand between others
 entries-between : {A : Type 0} (d : A) (xs ys zs : List A) → entries d (xs ++ (ys ++ zs)) (length xs) (length ys) ≡ ys

@@ -5,14 +5,14 @@ use mathlib.Core.List.{List, [], _∷_, _++_, append-assoc, append-nil}
 use Prim.Native.Nat.{ℕ, zero, suc, _+_, _*_, _-_, _/_, _^_, _≤_, _<_}
 use native.Mathlib.Omega.{arith}
 use native.Mathlib.Decide.{decLt}
-use native.Mathlib.Nat.{le-refl, le-trans, sub-zero}
+use native.Mathlib.Nat.{le-refl, sub-zero}
 use lib.ListN.{length, getD, take, drop, replicate, length-append, length-drop, take-append-drop}
 use lib.Seq.{take-take, take-append-le, take-length, drop-at, length-take-le}
 use Rattle.model.specs.declared.Seconds.{Seconds}
 use Rattle.model.specs.declared.PagesPerHour.{PagesPerHour}
 use Rattle.model.specs.declared.Job.{Job}
 use Rattle.model.specs.declared.Profile.{Profile}
-use Rattle.model.specs.Model.{seconds, pagesPerHour, jobsOf, PermittedAfter, need, rowSize}
+use Rattle.model.specs.Model.{seconds, pagesPerHour, jobsOf, need, rowSize}
 use Rattle.model.specs.Valid.{ValidJobs, Valid}
 use Rattle.codec.specs.RowWords.{withRow}
 use Rattle.codec.proofs.Rows.{row-in}
@@ -39,14 +39,6 @@ pub getD-padded : (ts : List Seconds) (k i : ℕ) → getD (ts ++ replicate k (s
 getD-padded [] k i = getD-zeros k i
 getD-padded (t ∷ ts) k zero = refl
 getD-padded (t ∷ ts) k (suc i) = getD-padded ts k i
-
--- each permitted period is within the hour
-pub period-to : (before : Seconds) (js : List Job) (ts : List Seconds) → ValidJobs js → PermittedAfter before js ts → (i : ℕ) → getD ts i (seconds 0) .0 ≤ 3600
-period-to before [] [] v h i = omega arith
-period-to before [] (t ∷ ts) v h i = absurd h
-period-to before (j ∷ js) [] v h i = omega arith
-period-to before (j ∷ js) (t ∷ ts) v h zero = le-trans (h .0 .below) (v .0 .hi-to)
-period-to before (j ∷ js) (t ∷ ts) v h (suc i) = period-to t js ts (v .1) (h .1) i
 
 -- the row of an answer has its need and its periods
 answer-row : {js : List Job} {limit : ℕ} (n : ℕ) (flat : List ℕ) (k : ℕ) → Answer js limit (stairAt n flat k) → Legible n flat k

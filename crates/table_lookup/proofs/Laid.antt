@@ -12,6 +12,7 @@ use Rattle.model.specs.declared.Job.{Job}
 use Rattle.model.specs.declared.Profile.{Profile}
 use Rattle.model.specs.Model.{seconds, pagesPerHour, noJob, entries, jobsOf, periodsOf, PermittedAfter, Permitted, need, loss, padded}
 use Rattle.model.specs.Valid.{ValidJobs, Valid}
+use Rattle.model.proofs.Bounds.{period-to}
 use Rattle.model.proofs.Entries.{length-entries, entries-front, entries-all, entries-same}
 use Rattle.codec.specs.Packing.{bits, recut}
 use Rattle.codec.specs.Layout.{byteWidths}
@@ -19,7 +20,7 @@ use Rattle.codec.specs.Fit.{Within, Bytes}
 use Rattle.codec.proofs.Packing.{recut-back, recut-within}
 use Rattle.table.specs.Table.{tableBytes}
 use Rattle.table.proofs.Best.{need-small}
-use Rattle.table.proofs.TableRows.{getD-padded, period-to}
+use Rattle.table.proofs.TableRows.{getD-padded}
 use Rattle.table_row.specs.Table.{tableWidths, tableRow, rowFields, startAt, periodsAt, lossAt}
 use Rattle.table_row.proofs.Words.{seconds-again, length-table-row}
 

@@ -4,15 +4,15 @@ use mathlib.Core.Path.{_≡_, sym, _∙_, ap, ap₂, subst}
 use mathlib.Core.List.{List, [], _∷_, _++_, map, List·Memᴰ, List·Memᴰ·head, List·Memᴰ·tail, List·Memᴰ·not-nil, List·Memᴰ·cases-cons}
 use mathlib.Core.Logic.{⊎-elim}
 use Prim.Native.Nat.{ℕ, zero, suc, _+_, _*_, _-_, _≤_, _<_}
-use native.Mathlib.Nat.{add-zero, eq-or-lt-of-le, not-suc-le-zero, le-of-suc-le-suc}
+use native.Mathlib.Nat.{eq-or-lt-of-le}
 use native.Mathlib.Decide.{decLt}
 use native.Mathlib.Omega.{arith}
 use lib.ListN.{length, getD, take, drop, length-drop, length-map, take-append-drop, drop-of-length-le, List·getD-eq-default}
 use lib.Seq.{drop-cons, drop-drop}
 use Rattle.model.specs.declared.Seconds.{Seconds}
 use Rattle.model.specs.declared.Profile.{Profile}
-use Rattle.model.specs.Model.{seconds, entries, jobsOf, periodsOf, need}
-use Rattle.model.proofs.Entries.{length-entries, entries-all, entries-same}
+use Rattle.model.specs.Model.{seconds, jobsOf, periodsOf, need}
+use Rattle.model.proofs.Entries.{length-entries, getD-entries, entries-all, entries-same}
 use Rattle.codec.specs.Packing.{recut}
 use Rattle.codec.specs.Layout.{byteWidths}
 use Rattle.codec.specs.Fit.{Within, Bytes}
@@ -63,19 +63,11 @@ rowsFrom p bytes k (suc m) = listAt p bytes k ∷ rowsFrom p bytes (k + 1) m
 pub rowsRead : Profile → List ℕ → List (List Seconds)
 rowsRead p bytes = rowsFrom p bytes 0 (rowsIn bytes)
 
-getD-entries : (d : Seconds) (xs : List Seconds) (i n j : ℕ) → j < n → getD (entries d xs i n) j d ≡ getD xs (i + j) d
-unfolding entries
-getD-entries d xs i zero j less = absurd (not-suc-le-zero less)
-getD-entries d xs i (suc n) zero less = ap (λ (k : ℕ). getD xs k d) (sym (add-zero i))
-getD-entries d xs i (suc n) (suc j) less =
-    let place : i + 1 + j ≡ i + suc j = omega arith in
-    getD-entries d xs (i + 1) n j (le-of-suc-le-suc less) ∙ ap (λ (k : ℕ). getD xs k d) place
-
 module _ (p : Profile) (bytes : List ℕ) where
   module _ (k : ℕ) (g : GoodAlone p bytes k) where
     -- beyond n both have zeros
     same-period : (j : ℕ) → Dec (j < p .n) → Dec (j < 8) → getD (listAt p bytes k) j (seconds 0) ≡ getD (periodsAt bytes k) j (seconds 0)
-    same-period j (yes less) in-eight = getD-entries (seconds 0) (periodsAt bytes k) 0 (p .n) j less ∙ ap (λ (i : ℕ). getD (periodsAt bytes k) i (seconds 0)) (omega arith)
+    same-period j (yes less) in-eight = getD-entries (seconds 0) (periodsAt bytes k) less
     same-period j (no past) (yes in-eight) = List·getD-eq-default (listAt p bytes k) (seconds 0) (omega (arith, length-entries (seconds 0) (periodsAt bytes k) 0 (p .n))) ∙ ap seconds (sym (g .zeros j (omega arith) in-eight))
     same-period j (no past) (no beyond) = List·getD-eq-default (listAt p bytes k) (seconds 0) (omega (arith, length-entries (seconds 0) (periodsAt bytes k) 0 (p .n))) ∙ sym (List·getD-eq-default (periodsAt bytes k) (seconds 0) (omega (arith, length-periods bytes k)))
 

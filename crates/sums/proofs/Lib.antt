@@ -1,2 +1,0 @@
-pub mod Scorable
-pub mod Sums
