@@ -5,6 +5,7 @@ use Prim.Native.Nat.{ℕ}
 use Rattle.model.specs.Model.{rate}
 use Rattle.model.proofs.Bounds.{cost-bound}
 use Rattle.step.specs.Step.{hourly}
+use native.Mathlib.Omega.{arith}
 use borrow.Author.Needs.{needs}
 use Rattle.step.proofs.fastest_rate.Statement.{statement}
 use Rattle.step.proofs.fastest_rate.Tie as tie
@@ -15,7 +16,7 @@ loss-pages-requires c κs = search needs
 hourly-rate-requires : tie.Need-hourly-rate-requires
 hourly-rate-requires c κs =
     let v = c .before .pre in
-    rw (c .loss-pages .ensures) (cost-bound _ v, v .lo-from)
+    rw (c .loss-pages .ensures) (cost-bound _ v, omega (arith, v))
 
 returns : tie.Need-returns
 unfolding rate

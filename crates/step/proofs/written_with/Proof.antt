@@ -1,6 +1,7 @@
 -- `step::written_with` meets its contract: the pages that it hands on are the job's, and few enough.
 -- Assumes nothing.
 use Rattle.model.proofs.Bounds.{load-bound}
+use native.Mathlib.Omega.{arith}
 use borrow.Author.Needs.{needs}
 use Rattle.step.proofs.written_with.Statement.{statement}
 use Rattle.step.proofs.written_with.Tie as tie
@@ -11,7 +12,7 @@ need-pages-requires c κs = search needs
 carry-requires : tie.Need-carry-requires
 carry-requires c κs =
     let pre = c .before .pre in
-    rw (c .need-pages .ensures) (pre .1, pre .2, load-bound _ (pre .0))
+    rw (c .need-pages .ensures) (pre .1, omega (arith, pre .1, pre .2), load-bound _ (pre .0))
 
 returns : tie.Need-returns
 returns c = rw (c .before .need-pages .ensures) at (c .carry .ensures)
