@@ -1,6 +1,7 @@
 pub mod Bound
 pub mod Coming
 pub mod Listing
+pub mod Multipliers
 pub mod OneOutcome
 pub mod Outcome
 pub mod Permitted

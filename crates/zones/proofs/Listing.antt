@@ -13,15 +13,17 @@ use lib.Seq.{append-snoc}
 use lib.Dec.{ltb}
 use borrow.Author.Tests.{le-ltb, ltb-false}
 use Rattle.model.specs.declared.Job.{Job}
-use Rattle.model.specs.Model.{seconds, roundUp}
+use Rattle.model.specs.Model.{seconds, roundUp, Permitted}
 use Rattle.model.specs.Valid.{ValidJobs}
 use Rattle.model.proofs.Rounding.{round-up-le, round-up-some}
 use Rattle.model.proofs.Lists.{in-flat, flat-has, rising-append}
 use Rattle.zone_walk.specs.Zone.{Zone}
-use Rattle.zones.specs.Zones.{MultiplesAfter, InIntervals, IsZone, Before, ZonesRise, ZonesOf}
+use Rattle.zones.specs.Zones.{periodsFor, IsZone, Before, ZonesRise, ZonesOf}
+use Rattle.zones.specs.Multipliers.{MultiplesAfter, InIntervals, ByMultipliers}
 use Rattle.zone_walk.specs.Listing.{Span, spanOf, upTo, firstMultiplier, leastFor, greatestFor, unlessEmpty, zonesBelow, zonesIn, zonesFor}
 use Rattle.zone_walk.proofs.Climbing.{RisingNumbers, up-to-rising, up-to-in, up-to-has}
 use Rattle.zones.specs.Lies.{InRange}
+use Rattle.zones.proofs.Multipliers.{as-many, zone-by-multipliers}
 use Rattle.zones.proofs.Ranges.{narrowed, narrows, in-nonempty, in-open}
 use Rattle.zones.proofs.Rising.{before-after}
 
@@ -160,16 +162,10 @@ same-zone js {y} {z} a b e =
     λ i. record { least = seconds (l i); greatest = seconds (g i); multipliers = e i }
   where
     into : (u w : Zone) → IsZone js u → IsZone js w → u .multipliers ≡ w .multipliers → (t : ℕ) → u .least .0 ≤ t → t ≤ u .greatest .0 → InRange w t
-    into u w k h d t from to = h .range t .1 (subst (λ (ms : List ℕ). InIntervals js ms t) d (k .range t .0 (from, to)))
-
-as-many : (js : List Job) (more : List ℕ) (t : ℕ) → InIntervals js more t → length more ≡ length js
-as-many [] [] t h = refl
-as-many [] (a ∷ more) t h = absurd h
-as-many (j ∷ js) [] t h = absurd h
-as-many (j ∷ js) (a ∷ more) t h = ap suc (as-many js more t (h .2))
+    into u w k h d t from to = h .range t .1 (subst (λ (ms : List ℕ). Permitted js (periodsFor ms t)) d (k .range t .0 (from, to)))
 
 -- the first job's multiplier is 1
-whole : (j : Job) (js : List Job) (z : Zone) → Below js (1 ∷ []) (j .lo .0) (j .hi .0) 1 z → IsZone (j ∷ js) z
+whole : (j : Job) (js : List Job) (z : Zone) → Below js (1 ∷ []) (j .lo .0) (j .hi .0) 1 z → ByMultipliers (j ∷ js) z
 whole j js z b = record {
   each = ap length (b .multipliers) ∙ ap suc (as-many js (b .more) (z .least .0) (b .range (z .least .0) .0 (le-refl _, b .some) .2));
   first = ap (λ (ms : List ℕ). getD ms 0 0) (b .multipliers);
@@ -189,7 +185,7 @@ whole j js z b = record {
 zones-only : (js : List Job) → ValidJobs js → (z : Zone) → List·Memᴰ z (zonesFor js) → IsZone js z
 unfolding zonesIn
 zones-only [] v z i = absurd (List·Memᴰ·not-nil i)
-zones-only (j ∷ js) v z i = whole j js z (below-only js (1 ∷ []) (j .lo .0) (j .hi .0) 1 (v .1) (v .0 .lo-from) (v .0 .lo-to) (le-refl 1) i)
+zones-only (j ∷ js) v z i = zone-by-multipliers (j ∷ js) v .1 (whole j js z (below-only js (1 ∷ []) (j .lo .0) (j .hi .0) 1 (v .1) (v .0 .lo-from) (v .0 .lo-to) (le-refl 1) i))
 
 -- multipliers that some first period allows are those of a zone in the list
 pub zones-have : (js : List Job) → ValidJobs js → (more : List ℕ) (t : ℕ) → MultiplesAfter 1 more → InIntervals js (1 ∷ more) t → (z : Zone) × List·Memᴰ z (zonesFor js) × (z .multipliers ≡ 1 ∷ more)
@@ -198,7 +194,7 @@ zones-have [] v more t c h = absurd h
 zones-have (j ∷ js) v more t c h = below-all js (1 ∷ []) more (j .lo .0) (j .hi .0) 1 t (v .1) (v .0 .lo-from) (le-refl 1) c (omega arith) (omega arith) (h .2)
 
 -- a zone's multipliers are 1 and those after it
-pub front : (js : List Job) (z : Zone) → 1 ≤ length js → IsZone js z → (more : List ℕ) × (z .multipliers ≡ 1 ∷ more) × MultiplesAfter 1 more
+pub front : (js : List Job) (z : Zone) → 1 ≤ length js → ByMultipliers js z → (more : List ℕ) × (z .multipliers ≡ 1 ∷ more) × MultiplesAfter 1 more
 front js z h a = go (z .multipliers) refl
   where
     go : (ms : List ℕ) → z .multipliers ≡ ms → (more : List ℕ) × (z .multipliers ≡ 1 ∷ more) × MultiplesAfter 1 more
@@ -210,8 +206,9 @@ front js z h a = go (z .multipliers) refl
 
 zones-all : (js : List Job) → 1 ≤ length js → ValidJobs js → (z : Zone) → IsZone js z → List·Memᴰ z (zonesFor js)
 zones-all js h v z a =
-    let f = front js z h a in
-    let r = zones-have js v (f .0) (z .least .0) (f .2) (rw (f .1) at (a .range (z .least .0) .0 (le-refl _, a .some))) in
+    let b = zone-by-multipliers js v .0 a in
+    let f = front js z h b in
+    let r = zones-have js v (f .0) (z .least .0) (f .2) (rw (f .1) at (b .range (z .least .0) .0 (le-refl _, a .some))) in
     Memᴰ·cast (same-zone js a (zones-only js v (r .0) (r .1)) (f .1 ∙ sym (r .2))) (r .1)
 
 zones-rising : (js : List Job) → ZonesRise (zonesFor js)

@@ -1,3 +1,4 @@
 pub mod Zones
 pub mod ZoneRows
 pub mod Lies
+pub mod Multipliers

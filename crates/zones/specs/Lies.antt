@@ -1,18 +1,14 @@
 -- Which zone a list of periods lies in: what the theorems in proofs/Permitted.antt are stated with. No contract cites this. Assumes nothing.
 use mathlib.Core.Path.{_≡_}
-use mathlib.Core.List.{List, map}
-use Prim.Native.Nat.{ℕ, _*_, _≤_}
+use mathlib.Core.List.{List}
+use Prim.Native.Nat.{ℕ, _≤_}
 use Rattle.model.specs.declared.Seconds.{Seconds}
-use Rattle.model.specs.Model.{seconds}
 use Rattle.zone_walk.specs.Zone.{Zone}
+use Rattle.zones.specs.Zones.{periodsFor}
 
 -- A first period in a zone's range.
 abbrev pub InRange : Zone → ℕ → Type 0
 InRange z t = (z .least .0 ≤ t) × (t ≤ z .greatest .0)
-
--- The periods that multipliers give at a first period.
-abbrev pub periodsFor : List ℕ → ℕ → List Seconds
-periodsFor ms t = map (λ a. seconds (a * t)) ms
 
 -- A list of periods lies in a zone: its multipliers give the list at some first period of its range (Zones).
 pub record LiesIn (ts : List Seconds) (z : Zone) : Type 0 where

@@ -2,37 +2,28 @@
 -- multipliers, stands in specs/Zone.antt of zone_walk. Cited by public contracts. Assumes nothing.
 use mathlib.Core.Path.{_≡_}
 use mathlib.Core.Logic.{_↔_}
-use mathlib.Core.List.{List, [], _∷_, _++_, List·Memᴰ}
-use Prim.Native.Nat.{ℕ, _*_, _%_, _≤_}
+use mathlib.Core.List.{List, [], _∷_, _++_, map, List·Memᴰ}
+use Prim.Native.Nat.{ℕ, _*_, _≤_}
 use lib.ListN.{length, getD}
 use Rattle.model.specs.declared.Seconds.{Seconds}
 use Rattle.model.specs.declared.Job.{Job}
 use Rattle.model.specs.declared.Profile.{Profile}
 use Rattle.model.specs.declared.Counted.{Counted}
 use Rattle.model.specs.declared.Verdict.the-variants.{Sound}
-use Rattle.model.specs.Model.{entries, Rising, jobsOf, Permitted, verdictOf, rowSize, PutsRows}
+use Rattle.model.specs.Model.{seconds, entries, Rising, jobsOf, Permitted, verdictOf, rowSize, PutsRows}
 use Rattle.codec.specs.Layout.{byteWidths}
 use Rattle.codec.specs.Packing.{recut}
 use Rattle.zone_walk.specs.Zone.{Zone}
 
--- Multipliers from 1 up, each a whole multiple of the one before it (Zones).
-abbrev pub MultiplesAfter : ℕ → List ℕ → Type 0
-MultiplesAfter before [] = Unit {0}
-MultiplesAfter before (a ∷ more) = (1 ≤ a) × (a % before ≡ 0) × MultiplesAfter a more
+-- The periods that multipliers give at a first period (Zones).
+abbrev pub periodsFor : List ℕ → ℕ → List Seconds
+periodsFor multipliers t = map (λ a. seconds (a * t)) multipliers
 
--- Every multiplier times the first period t is in its job's interval (Zones).
-abbrev pub InIntervals : List Job → List ℕ → ℕ → Type 0
-InIntervals [] [] t = Unit {0}
-InIntervals [] (a ∷ more) t = ⊥
-InIntervals (j ∷ js) [] t = ⊥
-InIntervals (j ∷ js) (a ∷ more) t = (j .lo .0 ≤ a * t) × (a * t ≤ j .hi .0) × InIntervals js more t
-
--- A zone of these jobs: its range holds the whole numbers, all and only, that put every job in its interval, and at least one (Zones).
+-- A zone of these jobs: its range holds the first periods, all and only, at which its multipliers give permitted periods, and at
+-- least one; the first multiplier is 1 (Zones).
 pub record IsZone (js : List Job) (z : Zone) : Type 0 where
-  pub each : length (z .multipliers) ≡ length js
   pub first : getD (z .multipliers) 0 0 ≡ 1
-  pub multiples : MultiplesAfter 1 (z .multipliers)
-  pub range : (t : ℕ) → ((z .least .0 ≤ t) × (t ≤ z .greatest .0)) ↔ InIntervals js (z .multipliers) t
+  pub range : (t : ℕ) → ((z .least .0 ≤ t) × (t ≤ z .greatest .0)) ↔ Permitted js (periodsFor (z .multipliers) t)
   pub some : z .least .0 ≤ z .greatest .0
 
 -- By a2, then a3, and so on: smaller at the first multiplier in which they differ, and they do differ (Zones).
