@@ -1,6 +1,6 @@
 -- A profile as bytes (document 01, Packing): which fields it has, how wide they are, and in which order they stand.
 -- Cited by public contracts. Assumes nothing.
-use mathlib.Core.List.{List, [], _∷_, _++_}
+use mathlib.Core.List.{List, [], _∷_, _++_, flatMap}
 use Prim.Native.Nat.{ℕ, _+_, _*_}
 use lib.ListN.{replicate}
 use Rattle.model.specs.declared.Job.{Job}
@@ -30,8 +30,7 @@ fieldsOf j = j .lo .0 ∷ j .hi .0 ∷ j .«data» ∷ j .metadata ∷ j .stiffn
 
 -- The bytes of job records, one after the other.
 unfoldable pub recordBytes : List Job → List ℕ
-recordBytes [] = []
-recordBytes (j ∷ js) = recut jobWidths (byteWidths 8) (fieldsOf j) ++ recordBytes js
+recordBytes js = flatMap (λ j. recut jobWidths (byteWidths 8) (fieldsOf j)) js
 
 -- A profile as bytes: edition 1 and n, then the records.
 unfoldable pub profileBytes : Profile → List ℕ

@@ -1,7 +1,7 @@
 -- The 41 numbers of a profile stand for that profile again: place by place they are its own values.
 -- Assumes nothing.
 use mathlib.Core.Path.{_≡_, refl, sym, _∙_, ap}
-use mathlib.Core.List.{List, [], append-nil}
+use mathlib.Core.List.{List, [], append-nil, flatMap}
 use lib.ListN.{length, drop}
 use Rattle.model.specs.declared.Job.{Job}
 use Rattle.model.specs.declared.Profile.{Profile}
@@ -14,7 +14,7 @@ eight-entries : (js : List Job) → length js ≡ 8 → entries noJob js 0 8 ≡
 eight-entries js h = ap (entries noJob js 0) (sym h) ∙ ap (λ (l : List Job). entries noJob l 0 (length js)) (sym (append-nil js)) ∙ entries-front noJob js []
 
 placed : (p : Profile) → profileIn (p .n) (drop 1 (numbersOf p)) ≡ record { n = p .n; jobs = entries noJob (p .jobs) 0 8 }
-unfolding numbersOf jobsNumbers entries
+unfolding numbersOf jobsNumbers flatMap entries
 placed p = refl
 
 -- the numbers that `charopleth_read` stores can be handed to the other functions: n first, then the 40 numbers behind it

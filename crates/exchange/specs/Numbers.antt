@@ -1,6 +1,6 @@
 -- Which numbers stand for profiles, answers and verdicts where C lends and gets them. The public contracts of C's functions
 -- cite this. Assumes nothing.
-use mathlib.Core.List.{List, [], _∷_, _++_, map}
+use mathlib.Core.List.{List, [], _∷_, map, flatMap}
 use Prim.Native.Nat.{ℕ, _+_, _*_, _-_, _^_, min}
 use lib.ListN.{getD}
 use Rattle.model.specs.declared.Seconds.{Seconds}
@@ -35,8 +35,7 @@ abbrev pub jobNumbers : Job → List ℕ
 jobNumbers j = j .lo .0 ∷ j .hi .0 ∷ j .«data» ∷ j .metadata ∷ j .stiffness ∷ []
 
 unfoldable pub jobsNumbers : List Job → List ℕ
-jobsNumbers [] = []
-jobsNumbers (j ∷ js) = jobNumbers j ++ jobsNumbers js
+jobsNumbers js = flatMap jobNumbers js
 
 unfoldable pub numbersOf : Profile → List ℕ
 numbersOf p = p .n ∷ jobsNumbers (entries noJob (p .jobs) 0 8)

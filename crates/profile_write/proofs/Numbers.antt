@@ -1,7 +1,7 @@
 -- The layout, tried on document 01's own bytes: profile A both ways, and with other jobs standing beyond its three.
 -- Each is computed by the checker. Assumes nothing.
 use mathlib.Core.Path.{_≡_, refl}
-use mathlib.Core.List.{List, [], _∷_}
+use mathlib.Core.List.{List, [], _∷_, flatMap}
 use Prim.Native.Nat.{ℕ}
 use Rattle.model.specs.declared.Job.{Job}
 use Rattle.model.specs.declared.Profile.{Profile}
@@ -31,7 +31,7 @@ unfolding headerOf recut pack unpack bits recordsIn bytesA withBeyond job
 read = refl
 
 written : (j : Job) → profileBytes (withBeyond j) ≡ bytesA
-unfolding profileBytes recordBytes recut pack unpack bits entries bytesA withBeyond job
+unfolding profileBytes recordBytes flatMap recut pack unpack bits entries bytesA withBeyond job
 written j = refl
 
 room-enough : (j : Job) → writeVerdict (withBeyond j) 25 ≡ Sound

@@ -1,7 +1,7 @@
 -- Records one after the other: the step of the loop that writes a profile's records.
 -- Assumes nothing.
 use mathlib.Core.Path.{_≡_, refl, sym, _∙_, ap}
-use mathlib.Core.List.{List, [], _∷_, _++_, append-assoc, append-nil}
+use mathlib.Core.List.{List, [], _∷_, _++_, append-assoc, append-nil, flatMap}
 use Prim.Native.Nat.{ℕ, _+_, _*_, _≤_}
 use native.Mathlib.Nat.{div-one, mul-one, add-zero, zero-add}
 use native.Mathlib.Numerals.{add-one}
@@ -18,12 +18,12 @@ use Rattle.codec.proofs.Packing.{length-recut}
 
 -- the bytes of one job more, behind
 pub record-bytes-snoc : (js : List Job) (j : Job) → recordBytes (js ++ (j ∷ [])) ≡ recordBytes js ++ recut jobWidths (byteWidths 8) (fieldsOf j)
-unfolding recordBytes
+unfolding recordBytes flatMap
 record-bytes-snoc [] j = append-nil _
 record-bytes-snoc (i ∷ js) j = ap (λ (l : List ℕ). recut jobWidths (byteWidths 8) (fieldsOf i) ++ l) (record-bytes-snoc js j) ∙ sym (append-assoc (recut jobWidths (byteWidths 8) (fieldsOf i)) (recordBytes js) (recut jobWidths (byteWidths 8) (fieldsOf j)))
 
 pub length-record-bytes : (js : List Job) → length (recordBytes js) ≡ 8 * length js
-unfolding recordBytes
+unfolding recordBytes flatMap
 length-record-bytes [] = refl
 length-record-bytes (j ∷ js) =
     length-append (recut jobWidths (byteWidths 8) (fieldsOf j)) (recordBytes js)
@@ -41,7 +41,7 @@ pub record Filled (start : List ℕ) (js : List Job) (k : ℕ) (out : List ℕ) 
   pub bytes : out ≡ take 1 start ++ recordBytes js ++ drop (1 + 8 * k) start
 
 pub nothing-filled : (start : List ℕ) → Filled start [] 0 start
-unfolding recordBytes
+unfolding recordBytes flatMap
 nothing-filled start = record { jobs = refl; same = refl; bytes = sym (ap (λ (l : List ℕ). l ++ drop 1 start) (append-nil (take 1 start)) ∙ take-append-drop 1 start) }
 
 filled-bytes : (start : List ℕ) (js : List Job) (k : ℕ) (out : List ℕ) (j : Job) → 1 + 8 * k + 8 ≤ length start → Filled start js k out

@@ -1,7 +1,7 @@
 -- What was written reads back, and what was read is written back: each record's bits are cut there and back, by the laws of packing.
 -- Assumes nothing.
 use mathlib.Core.Path.{_≡_, refl, sym, _∙_, ap, ap₂, subst}
-use mathlib.Core.List.{List, [], _∷_, _++_, map}
+use mathlib.Core.List.{List, [], _∷_, _++_, map, flatMap}
 use Prim.Native.Nat.{ℕ, zero, suc, _+_, _*_, _≤_}
 use native.Mathlib.Nat.{suc-ne-zero}
 use native.Mathlib.Omega.{arith}
@@ -39,7 +39,7 @@ fields-within j v = omega arith
 
 -- the bytes of jobs are cut back into their fields
 records-back : (js : List Job) → ValidJobs js → recordsIn (length js) (recordBytes js) ≡ map fieldsOf js
-unfolding recordsIn recordBytes
+unfolding recordsIn recordBytes flatMap
 records-back [] v = refl
 records-back (j ∷ js) v =
     let R = recut jobWidths (byteWidths 8) (fieldsOf j) in
@@ -149,7 +149,7 @@ record-kept fs k h e =
 -- records that are all sound are written back the same
 records-kept : (n : ℕ) (bytes : List ℕ) (k : ℕ) → length bytes ≡ 8 * n → Within (byteWidths (8 * n)) bytes → firstRefused judgeRecord k (recordsIn n bytes) ≡ Sound
     → ValidJobs (map jobOf (recordsIn n bytes)) × (recordBytes (map jobOf (recordsIn n bytes)) ≡ bytes)
-unfolding firstRefused recordsIn recordBytes
+unfolding firstRefused recordsIn recordBytes flatMap
 records-kept zero [] k size h e = (tt, refl)
 records-kept zero (b ∷ bytes) k size h e = absurd (suc-ne-zero _ size)
 records-kept (suc n) bytes k size h e =

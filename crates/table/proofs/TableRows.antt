@@ -1,7 +1,7 @@
 -- Table rows: the row of an answer has its need and periods, and row stands before row from the back of the table.
 -- Assumes nothing.
 use mathlib.Core.Path.{_≡_, refl, sym, _∙_, ap, ap₂, subst}
-use mathlib.Core.List.{List, [], _∷_, _++_, append-assoc, append-nil}
+use mathlib.Core.List.{List, [], _∷_, _++_, append-assoc, append-nil, flatMap}
 use Prim.Native.Nat.{ℕ, zero, suc, _+_, _*_, _-_, _/_, _^_, _≤_, _<_}
 use native.Mathlib.Omega.{arith}
 use native.Mathlib.Decide.{decLt}
@@ -66,7 +66,7 @@ pub record Writing (js : List Job) (count : ℕ) (old out : List ℕ) (row limit
 
 module _ (js : List Job) (count : ℕ) (old : List ℕ) where
   pub none-written : count ≡ length (rowsBelow js allBudgets) → Writing js count old old count (2 ^ 32)
-  unfolding tableBytes
+  unfolding tableBytes flatMap
   none-written e = record {
     written = [];
     whole = sym (append-nil _);
@@ -99,7 +99,7 @@ module _ (js : List Job) (count : ℕ) (old : List ℕ) where
 
     one-written : ValidJobs js → {r : Stair} → Answer js limit r → count ≤ length old / rowSize →
         Writing js count old (withRow out (row - 1) (tableRow (need js (r .periods)) (r .periods))) (row - 1) (r .its-need)
-    unfolding tableBytes
+    unfolding tableBytes flatMap
     one-written v {r} a room =
         let ts = r .periods in
         let R = tableRow (need js ts) ts in

@@ -2,7 +2,7 @@
 -- Cited by public contracts. Assumes nothing.
 use mathlib.Core.Path.{_≡_}
 use mathlib.Core.Logic.{_↔_}
-use mathlib.Core.List.{List, [], _∷_, _++_, List·Memᴰ}
+use mathlib.Core.List.{List, flatMap, List·Memᴰ}
 use Prim.Native.Nat.{ℕ, _^_, _<_}
 use lib.ListN.{length}
 use Rattle.model.specs.declared.Seconds.{Seconds}
@@ -26,8 +26,7 @@ pub record TableOf (js : List Job) (rows : List (List Seconds)) : Type 0 where
 
 -- Table rows one after the other: sixteen bytes each, the start being the need (Packing; The table).
 unfoldable pub tableBytes : List Job → List (List Seconds) → List ℕ
-tableBytes js [] = []
-tableBytes js (ts ∷ rows) = tableRow (need js ts) ts ++ tableBytes js rows
+tableBytes js rows = flatMap (λ ts. tableRow (need js ts) ts) rows
 
 -- What `build_table` may answer, and leave of a lent buffer that held `old`; for a refused profile nothing is said of `rows`.
 -- There are no rows, and so 9 is answered, exactly where no list is permitted (Refusal numbers, 9).

@@ -1,7 +1,7 @@
 -- Table rows that stand in bytes one after the other are read at their places: each has sixteen bytes, whose bits are cut there and back.
 -- Assumes nothing.
 use mathlib.Core.Path.{_≡_, refl, sym, _∙_, ap, ap₂}
-use mathlib.Core.List.{List, [], _∷_, _++_, map, append-nil, append-assoc, List·Memᴰ, List·Memᴰ·head, List·Memᴰ·tail}
+use mathlib.Core.List.{List, [], _∷_, _++_, map, append-nil, append-assoc, List·Memᴰ, List·Memᴰ·head, List·Memᴰ·tail, flatMap}
 use Prim.Native.Nat.{ℕ, zero, suc, _+_, _*_, _-_, _≤_, _<_}
 use native.Mathlib.Nat.{zero-add, suc-add, not-suc-le-zero, le-of-suc-le-suc}
 use native.Mathlib.Omega.{arith}
@@ -66,7 +66,7 @@ module _ (js : List Job) (v : ValidJobs js) (few : length js ≤ 8) (ts : List S
 -- Rows one after the other.
 
 pub length-table : (js : List Job) (rows : List (List Seconds)) → length (tableBytes js rows) ≡ 16 * length rows
-unfolding tableBytes
+unfolding tableBytes flatMap
 length-table js [] = refl
 length-table js (ts ∷ rows) = length-append (tableRow (need js ts) ts) (tableBytes js rows) ∙ omega (arith, length-table-row (need js ts) ts, length-table js rows)
 
@@ -89,7 +89,7 @@ within-append (suc k) m (x ∷ xs) ys h g = rw (suc-add k m) (h .0, within-appen
 
 -- the sixteen bytes at a row's place, whatever stands behind the table
 row-there : (js : List Job) (rows : List (List Seconds)) (rest : List ℕ) (k : ℕ) → k < length rows → take 16 (drop (16 * k) (tableBytes js rows ++ rest)) ≡ tableRow (need js (getD rows k [])) (getD rows k [])
-unfolding tableBytes
+unfolding tableBytes flatMap
 row-there js [] rest k less = absurd (not-suc-le-zero less)
 row-there js (ts ∷ rows) rest zero less =
     let R = tableRow (need js ts) ts in
@@ -115,7 +115,7 @@ AllPermitted js rows = (ts : List Seconds) → List·Memᴰ ts rows → Permitte
 
 -- each of a table's bytes is one
 pub table-is-bytes : (js : List Job) → ValidJobs js → length js ≤ 8 → (rows : List (List Seconds)) → AllPermitted js rows → Bytes (tableBytes js rows)
-unfolding tableBytes
+unfolding tableBytes flatMap
 table-is-bytes js v few [] all = tt
 table-is-bytes js v few (ts ∷ rows) all =
     let R = tableRow (need js ts) ts in

@@ -1,7 +1,7 @@
 -- A well-formed table is the bytes of the rows read in it: each row's bits are cut there and back.
 -- Assumes nothing.
 use mathlib.Core.Path.{_≡_, sym, _∙_, ap, ap₂, subst}
-use mathlib.Core.List.{List, [], _∷_, _++_, map, List·Memᴰ, List·Memᴰ·head, List·Memᴰ·tail, List·Memᴰ·not-nil, List·Memᴰ·cases-cons}
+use mathlib.Core.List.{List, [], _∷_, _++_, map, List·Memᴰ, List·Memᴰ·head, List·Memᴰ·tail, List·Memᴰ·not-nil, List·Memᴰ·cases-cons, flatMap}
 use mathlib.Core.Logic.{⊎-elim}
 use Prim.Native.Nat.{ℕ, zero, suc, _+_, _*_, _-_, _≤_, _<_}
 use native.Mathlib.Nat.{eq-or-lt-of-le}
@@ -78,7 +78,7 @@ module _ (p : Profile) (bytes : List ℕ) where
         ∙ row-kept bytes k h less
 
   bytes-from : (m k : ℕ) → length bytes ≡ 16 * (k + m) → Bytes bytes → ((i : ℕ) → i < rowsIn bytes → GoodAlone p bytes i) → tableBytes (jobsOf p) (rowsFrom p bytes k m) ≡ drop (16 * k) bytes
-  unfolding rowsFrom tableBytes
+  unfolding rowsFrom tableBytes flatMap
   bytes-from zero k size h good = sym (drop-of-length-le bytes {i = 16 * k} (omega arith))
   bytes-from (suc m) k size h good =
       let here : k < rowsIn bytes = omega arith in

@@ -2,7 +2,7 @@
 -- Assumes nothing.
 use mathlib.Core.Path.{_≡_, refl, sym, _∙_, ap, ap₂, subst}
 use mathlib.Core.Bool.{Bool, true, false}
-use mathlib.Core.List.{List, [], _∷_, _++_, append-assoc, append-nil}
+use mathlib.Core.List.{List, [], _∷_, _++_, append-assoc, append-nil, flatMap}
 use Prim.Native.Nat.{ℕ, zero, suc, _+_, _*_, _-_, _/_, _^_, _≤_, _<_}
 use native.Mathlib.Omega.{arith}
 use native.Mathlib.Decide.{decLt}
@@ -70,13 +70,13 @@ current-row w o beyond =
     row-of-words zoneWidths (zoneFields (current w)) (highWord l g (w .multipliers)) (lowWord (w .multipliers)) (ap (pack zoneWidths) same ∙ words l g (w .multipliers)) (omega arith) (omega arith)
 
 pub length-rows : (zs : List Zone) → length (rowsOf zs) ≡ rowSize * length zs
-unfolding rowsOf
+unfolding rowsOf flatMap
 length-rows [] = refl
 length-rows (z ∷ zs) =
     length-append (recut zoneWidths (byteWidths rowSize) (zoneFields z)) (rowsOf zs) ∙ omega (arith, length-recut zoneWidths (byteWidths rowSize) (zoneFields z), length-rows zs)
 
 rows-snoc : (zs : List Zone) (z : Zone) → rowsOf (zs ++ (z ∷ [])) ≡ rowsOf zs ++ recut zoneWidths (byteWidths rowSize) (zoneFields z)
-unfolding rowsOf
+unfolding rowsOf flatMap
 rows-snoc [] z = append-nil _
 rows-snoc (y ∷ zs) z = ap (λ (l : List ℕ). recut zoneWidths (byteWidths rowSize) (zoneFields y) ++ l) (rows-snoc zs z) ∙ sym (append-assoc (recut zoneWidths (byteWidths rowSize) (zoneFields y)) (rowsOf zs) (recut zoneWidths (byteWidths rowSize) (zoneFields z)))
 
@@ -108,7 +108,7 @@ pub record Writing (all : List Zone) (old out : List ℕ) (w : Walk) (row : ℕ)
   pub bytes : length all ≤ length old / rowSize → out ≡ rowsOf (take row all) ++ drop (rowSize * row) old
 
 pub none-written : {all : List Zone} {old : List ℕ} {w : Walk} {found : Bool} → WentOn all (replicate 8 0) w found → Writing all old old w 0 found
-unfolding rowsOf
+unfolding rowsOf flatMap
 none-written o = record { rest = sym (o .zones); upto = omega arith; opens = o .opens; beyond = o .beyond; same = refl; bytes = λ room. refl }
 
 module _ (all : List Zone) (old out : List ℕ) (w : Walk) (row : ℕ) (found : Bool) (i : Writing all old out w row found) where

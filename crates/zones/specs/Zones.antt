@@ -2,7 +2,7 @@
 -- multipliers, stands in specs/Zone.antt of zone_walk. Cited by public contracts. Assumes nothing.
 use mathlib.Core.Path.{_≡_}
 use mathlib.Core.Logic.{_↔_}
-use mathlib.Core.List.{List, [], _∷_, _++_, map, List·Memᴰ}
+use mathlib.Core.List.{List, [], _∷_, _++_, map, flatMap, List·Memᴰ}
 use Prim.Native.Nat.{ℕ, _*_, _≤_}
 use lib.ListN.{length, getD}
 use Rattle.model.specs.declared.Seconds.{Seconds}
@@ -52,8 +52,7 @@ zoneFields z = z .least .0 ∷ z .greatest .0 ∷ (entries 0 (z .multipliers) 1 
 
 -- Zone rows one after the other, sixteen bytes each (Packing).
 unfoldable pub rowsOf : List Zone → List ℕ
-rowsOf [] = []
-rowsOf (z ∷ zs) = recut zoneWidths (byteWidths rowSize) (zoneFields z) ++ rowsOf zs
+rowsOf zs = flatMap (λ z. recut zoneWidths (byteWidths rowSize) (zoneFields z)) zs
 
 -- What `list_zones` may answer, and leave of a lent buffer that held `old`; for a refused profile nothing is said of `zones`.
 -- There are no zones, and so 9 is answered, exactly where no list is permitted (Refusal numbers, 9).

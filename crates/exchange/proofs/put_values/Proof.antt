@@ -1,7 +1,7 @@
 -- `exchange::put_values` meets its contract: n, then before each turn the jobs from the i-th on are left to store.
 -- Assumes nothing.
 use mathlib.Core.Path.{refl, ap}
-use mathlib.Core.List.{List}
+use mathlib.Core.List.{List, flatMap}
 use Prim.Native.Nat.{ℕ, _+_, _*_, _-_}
 use lib.ListN.{getD}
 use lib.Seq.{sets}
@@ -53,14 +53,14 @@ loop-less : tie.Need-loop-less Inv-loop μ-loop
 loop-less c = search needs
 
 loop-again : tie.Need-loop-again Inv-loop μ-loop
-unfolding jobsNumbers
+unfolding jobsNumbers flatMap
 loop-again c =
     let l = c .before .before .before .before .loop in
     let js = c .before .before .before .before .before .args .t1 .jobs in
     run-stored (jobNumbers (getD js (l .i) noJob)) (left js (l .i + 1)) (ap jobsNumbers (entries-step noJob js (l .i) 8 (omega arith))) (c .put-job .ensures) (omega arith) (l .inv)
 
 returns : tie.Need-returns Inv-loop μ-loop
-unfolding numbersOf jobsNumbers
+unfolding numbersOf jobsNumbers flatMap
 returns c =
     let l = c .before .loop in
     all-stored (ap jobsNumbers (entries-end noJob (c .before .before .args .t1 .jobs) (l .i) 8 (omega arith))) (l .inv)
