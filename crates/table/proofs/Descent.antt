@@ -17,8 +17,8 @@ use Rattle.walk.specs.Walk.{walk, start}
 use Rattle.choose_offer.specs.Found.{Found, nothing, found, pick}
 use Rattle.choose_walk.proofs.Fold.{BestOrNone, walk-best}
 use Rattle.choose.proofs.OneOutcome.{one-best}
-use Rattle.table.specs.Table.{StartsRise, TableOf}
-use Rattle.table.specs.Descent.{upTo, descent, rowsBelow, allBudgets}
+use Rattle.table.specs.Table.{TableOf}
+use Rattle.table.specs.Descent.{upTo, descent, rowsBelow, allBudgets, StartsRise}
 use Rattle.table.proofs.Rising.{rows-one-list, rising-snoc}
 use Rattle.table.proofs.Best.{best-between, some-best, need-small}
 

@@ -22,7 +22,8 @@ use Rattle.model.proofs.Validity.{sound-valid}
 use Rattle.choose.specs.declared.Choice.{Choice}
 use Rattle.choose.specs.Choice.{answered, LeastBudget, Outcome, given, none-permitted, none-fit, Chosen}
 use Rattle.choose.proofs.OneOutcome.{one-outcome}
-use Rattle.table.specs.Table.{StartsRise, TableOf, Built}
+use Rattle.table.specs.Table.{TableOf, Built}
+use Rattle.table.specs.Descent.{StartsRise}
 use Rattle.table.specs.Reading.{lastRow, readTable}
 use Rattle.table.proofs.Best.{best-at-need, needs-follow, some-best}
 use Rattle.table.proofs.Descent.{no-rows}

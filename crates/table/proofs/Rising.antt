@@ -8,7 +8,7 @@ use Rattle.model.specs.declared.Seconds.{Seconds}
 use Rattle.model.specs.declared.Job.{Job}
 use Rattle.model.specs.Model.{need}
 use Rattle.model.proofs.Lists.{Holds, rising-append, rising-one}
-use Rattle.table.specs.Table.{StartsRise}
+use Rattle.table.specs.Descent.{StartsRise}
 
 module _ (js : List Job) where
   less-strict : (ts us : List Seconds) → need js ts .0 < need js us .0 → need js us .0 < need js ts .0 → ⊥

@@ -1,9 +1,10 @@
 -- The table as a list that can be computed, from the greatest budget down. Only the contracts of private functions cite this.
 -- Assumes nothing.
 use mathlib.Core.List.{List, [], _∷_, _++_}
-use Prim.Native.Nat.{ℕ, zero, suc, _^_}
+use Prim.Native.Nat.{ℕ, zero, suc, _^_, _<_}
 use Rattle.model.specs.declared.Seconds.{Seconds}
 use Rattle.model.specs.declared.Job.{Job}
+use Rattle.model.specs.Model.{Rising, need}
 use Rattle.walk.specs.Walk.{start, walk}
 use Rattle.choose_offer.specs.Found.{Found, nothing, found, pick}
 
@@ -25,3 +26,7 @@ rowsBelow js limit = descent js limit limit
 -- One more than the greatest budget.
 abbrev pub allBudgets : ℕ
 allBudgets = 2 ^ 32
+
+-- Each row's need is below that of every later row.
+abbrev pub StartsRise : List Job → List (List Seconds) → Type 0
+StartsRise js rows = Rising (λ (ts us : List Seconds). need js ts .0 < need js us .0) rows

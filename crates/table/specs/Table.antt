@@ -14,15 +14,12 @@ use Rattle.model.specs.declared.Verdict.the-variants.{Sound}
 use Rattle.model.specs.Model.{Rising, jobsOf, Permitted, need, Best, verdictOf, PutsRows}
 use Rattle.table_row.specs.Table.{tableRow}
 
--- Each row's need is below that of every later row (The table: rising start).
-abbrev pub StartsRise : List Job → List (List Seconds) → Type 0
-StartsRise js rows = Rising (λ (ts us : List Seconds). need js ts .0 < need js us .0) rows
-
--- One row for each different best answer as the budget goes through all 32-bit numbers (The table; Quantities).
+-- One row for each different best answer as the budget goes through all 32-bit numbers, each with a need below that of every
+-- later row (The table: rising start; Quantities).
 pub record TableOf (js : List Job) (rows : List (List Seconds)) : Type 0 where
   pub some-budget : (ts : List Seconds) → List·Memᴰ ts rows → (b : PagesPerHour) × (b .0 < 2 ^ 32) × Best js b ts
   pub every-budget : (b : PagesPerHour) (ts : List Seconds) → b .0 < 2 ^ 32 → Best js b ts → List·Memᴰ ts rows
-  pub rising : StartsRise js rows
+  pub rising : Rising (λ (ts us : List Seconds). need js ts .0 < need js us .0) rows
 
 -- Table rows one after the other: sixteen bytes each, the start being the need (Packing; The table).
 unfoldable pub tableBytes : List Job → List (List Seconds) → List ℕ

@@ -8,7 +8,8 @@ use lib.ListN.{length, getD}
 use Rattle.model.specs.declared.Seconds.{Seconds}
 use Rattle.model.specs.declared.Job.{Job}
 use Rattle.model.specs.Model.{need, loss}
-use Rattle.table.specs.Table.{StartsRise, TableOf}
+use Rattle.table.specs.Table.{TableOf}
+use Rattle.table.specs.Descent.{StartsRise}
 use Rattle.table.proofs.Best.{table-losses-fall}
 use Rattle.table_lookup.proofs.Laid.{AllPermitted, row-member}
 

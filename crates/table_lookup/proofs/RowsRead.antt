@@ -18,7 +18,8 @@ use Rattle.codec.specs.Layout.{byteWidths}
 use Rattle.codec.specs.Fit.{Within, Bytes}
 use Rattle.codec.proofs.Packing.{recut-back, length-recut}
 use Rattle.codec.proofs.Bytes.{within-split}
-use Rattle.table.specs.Table.{StartsRise, tableBytes}
+use Rattle.table.specs.Table.{tableBytes}
+use Rattle.table.specs.Descent.{StartsRise}
 use Rattle.table_row.specs.Table.{tableWidths, tableRow, rowsIn, rowFields, startAt, periodsAt}
 use Rattle.table_row.proofs.Words.{numbers-again}
 use Rattle.table_check.specs.Formed.{GoodAlone, WellFormed}

@@ -18,11 +18,11 @@ use Rattle.model.specs.Valid.{ValidJobs}
 use Rattle.model.proofs.Rounding.{round-up-le, round-up-some}
 use Rattle.model.proofs.Lists.{in-flat, flat-has, rising-append}
 use Rattle.zone_walk.specs.Zone.{Zone}
-use Rattle.zones.specs.Zones.{periodsFor, IsZone, Before, ZonesRise, ZonesOf}
+use Rattle.zones.specs.Zones.{periodsFor, IsZone, Before, ZonesOf}
 use Rattle.zones.specs.Multipliers.{MultiplesAfter, InIntervals, ByMultipliers}
 use Rattle.zone_walk.specs.Listing.{Span, spanOf, upTo, firstMultiplier, leastFor, greatestFor, unlessEmpty, zonesBelow, zonesIn, zonesFor}
 use Rattle.zone_walk.proofs.Climbing.{RisingNumbers, up-to-rising, up-to-in, up-to-has}
-use Rattle.zones.specs.Lies.{InRange}
+use Rattle.zones.specs.Lies.{InRange, ZonesRise}
 use Rattle.zones.proofs.Multipliers.{as-many, zone-by-multipliers}
 use Rattle.zones.proofs.Ranges.{narrowed, narrows, in-nonempty, in-open}
 use Rattle.zones.proofs.Rising.{before-after}

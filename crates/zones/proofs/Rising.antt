@@ -7,7 +7,8 @@ use native.Mathlib.Omega.{arith}
 use native.Mathlib.Nat.{le-refl}
 use Rattle.model.proofs.Lists.{Holds, rising-once, rising-one}
 use Rattle.zone_walk.specs.Zone.{Zone}
-use Rattle.zones.specs.Zones.{Before, ZonesRise}
+use Rattle.zones.specs.Zones.{Before}
+use Rattle.zones.specs.Lies.{ZonesRise}
 
 pub before-asym : (xs ys : List ℕ) → Before xs ys → Before ys xs → ⊥
 before-asym [] ys h k = h

@@ -1,10 +1,12 @@
--- Which zone a list of periods lies in: what the theorems in proofs/Permitted.antt are stated with. No contract cites this. Assumes nothing.
+-- Which zone a list of periods lies in, and the order of zones by its own name: what the theorems in proofs/Permitted.antt and
+-- Rising.antt are stated with. No contract cites this. Assumes nothing.
 use mathlib.Core.Path.{_≡_}
 use mathlib.Core.List.{List}
 use Prim.Native.Nat.{ℕ, _≤_}
 use Rattle.model.specs.declared.Seconds.{Seconds}
+use Rattle.model.specs.Model.{Rising}
 use Rattle.zone_walk.specs.Zone.{Zone}
-use Rattle.zones.specs.Zones.{periodsFor}
+use Rattle.zones.specs.Zones.{periodsFor, Before}
 
 -- A first period in a zone's range.
 abbrev pub InRange : Zone → ℕ → Type 0
@@ -15,3 +17,7 @@ pub record LiesIn (ts : List Seconds) (z : Zone) : Type 0 where
   pub first : ℕ
   pub inside : InRange z first
   pub periods : ts ≡ periodsFor (z .multipliers) first
+
+-- Each zone stands before every later one.
+abbrev pub ZonesRise : List Zone → Type 0
+ZonesRise zs = Rising (λ (z y : Zone). Before (z .multipliers) (y .multipliers)) zs

@@ -32,15 +32,11 @@ Before [] others = ⊥
 Before (a ∷ more) [] = ⊥
 Before (a ∷ more) (b ∷ others) = (a ≤ b) × (a ≡ b → Before more others)
 
--- Each zone stands before every later one.
-abbrev pub ZonesRise : List Zone → Type 0
-ZonesRise zs = Rising (λ (z y : Zone). Before (z .multipliers) (y .multipliers)) zs
-
--- All zones of these jobs and nothing else, in their order, so each once (Zones).
+-- All zones of these jobs and nothing else, each before every later one, so each once (Zones).
 pub record ZonesOf (js : List Job) (zs : List Zone) : Type 0 where
   pub only : (z : Zone) → List·Memᴰ z zs → IsZone js z
   pub all : (z : Zone) → IsZone js z → List·Memᴰ z zs
-  pub rising : ZonesRise zs
+  pub rising : Rising (λ (z y : Zone). Before (z .multipliers) (y .multipliers)) zs
 
 -- A zone row's fields: least, greatest, a2 to a8, spare (Packing).
 abbrev pub zoneWidths : List ℕ
