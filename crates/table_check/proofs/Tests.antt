@@ -17,7 +17,7 @@ use Rattle.model.specs.Model.{seconds, jobsOf, periodsOf, PermittedAfter}
 use Rattle.model.specs.Testing.{allows}
 use Rattle.model.proofs.Allowing.{both-true, allowed, allowed-back}
 use Rattle.table_row.specs.Table.{rowsIn, startAt, periodsAt, needAt, lossAt}
-use Rattle.table_check.specs.Formed.{GoodAfter, GoodRow}
+use Rattle.table_check.specs.Formed.{GoodRow}
 use Rattle.table_check.specs.Checks.{Checked, all-good, first-bad}
 
 both-hold : {a b : Bool} → a ≡ true → b ≡ true → (a && b) ≡ true
@@ -82,20 +82,18 @@ firstBad p bytes k zero = 0
 firstBad p bytes k (suc m) = cond (rowGood p bytes k) (firstBad p bytes (k + 1) m) (k + 1)
 
 module _ (p : Profile) (bytes : List ℕ) (few : p .n ≤ 8) where
-  after-only : (k : ℕ) → afterGood p bytes k ≡ true → (j : ℕ) → k ≡ j + 1 → GoodAfter p bytes j k
+  after-only : (k : ℕ) → afterGood p bytes k ≡ true → (j : ℕ) → k ≡ j + 1 → (startAt bytes j .0 < startAt bytes k .0) × (lossAt p bytes k < lossAt p bytes j)
   unfolding afterGood
   after-only zero e j f = absurd (omega arith)
   after-only (suc k) e j f =
       let both = both-true (ltb (startAt bytes k .0) (startAt bytes (suc k) .0)) e in
       let same : k ≡ j = omega arith in
-      subst (λ (i : ℕ). GoodAfter p bytes i (suc k)) same (record { start = ltb-true _ _ (both .0); loss = ltb-true _ _ (both .1) })
+      subst (λ (i : ℕ). (startAt bytes i .0 < startAt bytes (suc k) .0) × (lossAt p bytes (suc k) < lossAt p bytes i)) same (ltb-true _ _ (both .0), ltb-true _ _ (both .1))
 
-  after-all : (k : ℕ) → ((j : ℕ) → k ≡ j + 1 → GoodAfter p bytes j k) → afterGood p bytes k ≡ true
+  after-all : (k : ℕ) → GoodRow p bytes k → afterGood p bytes k ≡ true
   unfolding afterGood
-  after-all zero h = refl
-  after-all (suc k) h =
-      let g = h k (omega arith) in
-      both-hold (lt-ltb _ _ (g .start)) (lt-ltb _ _ (g .loss))
+  after-all zero g = refl
+  after-all (suc k) g = both-hold (lt-ltb _ _ (g .start-rises k (omega arith))) (lt-ltb _ _ (g .loss-falls k (omega arith)))
 
   row-only : (k : ℕ) → rowGood p bytes k ≡ true → GoodRow p bytes k
   unfolding rowGood
@@ -104,15 +102,18 @@ module _ (p : Profile) (bytes : List ℕ) (few : p .n ≤ 8) where
       let b = both-true (zerosFrom (periodsAt bytes k) (p .n) (8 - p .n)) (a .1) in
       let c = both-true (eqb (needAt p bytes k .0) (startAt bytes k .0)) (b .1) in
       record {
-        alone = record { permitted = permits-only _ _ _ (a .0); zeros = λ i past to. zeros-only _ (8 - p .n) (p .n) (b .0) i past (omega arith); start = eqb-true _ _ (c .0) };
-        after = after-only k (c .1);
+        permitted = permits-only _ _ _ (a .0);
+        zeros = λ i past to. zeros-only _ (8 - p .n) (p .n) (b .0) i past (omega arith);
+        start = eqb-true _ _ (c .0);
+        start-rises = λ j f. after-only k (c .1) j f .0;
+        loss-falls = λ j f. after-only k (c .1) j f .1;
       }
 
   row-all : (k : ℕ) → GoodRow p bytes k → rowGood p bytes k ≡ true
   unfolding rowGood
   row-all k g =
-      both-hold (permits-all _ _ _ (g .alone .permitted))
-      (both-hold (zeros-all _ (8 - p .n) (p .n) (λ j from to. g .alone .zeros j from (omega arith))) (both-hold (eq-eqb _ _ (g .alone .start)) (after-all k (g .after))))
+      both-hold (permits-all _ _ _ (g .permitted))
+      (both-hold (zeros-all _ (8 - p .n) (p .n) (λ j from to. g .zeros j from (omega arith))) (both-hold (eq-eqb _ _ (g .start)) (after-all k g)))
 
   checked-from : (m k : ℕ) → k + m ≡ rowsIn bytes → ((j : ℕ) → j < k → GoodRow p bytes j) → Checked p bytes (firstBad p bytes k m)
   unfolding firstBad

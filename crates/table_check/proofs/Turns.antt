@@ -22,7 +22,7 @@ use Rattle.step.proofs.Along.{Along, along-starts, along-allows, along-next, al
 use Rattle.table_row.specs.declared.TableRow.{TableRow}
 use Rattle.table_row.specs.Table.{rowsIn, startAt, periodsAt, needAt, lossAt}
 use Rattle.table_row.specs.Cut.{rowAt, follows}
-use Rattle.table_check.specs.Formed.{GoodAfter, GoodRow}
+use Rattle.table_check.specs.Formed.{GoodRow}
 use Rattle.table_check.specs.Checks.{Checked, all-good, first-bad}
 
 -- before a turn of the loop over rows: those before the k-th are good, and the last of them is known
@@ -102,14 +102,14 @@ module _ {p : Profile} {bytes : List ℕ} {before : PagesPerHour} {lossBefore k 
 
     module _ {row : TableRow} (e : row ≡ rowAt bytes k) where
       pub place-fails : (Permitted (jobsOf p) (periodsOf p (row .periods)) → ⊥) → Checked p bytes (k + 1)
-      place-fails f = named (λ g. f (subst (λ (x : TableRow). Permitted (jobsOf p) (periodsOf p (x .periods))) (sym e) (g .alone .permitted)))
+      place-fails f = named (λ g. f (subst (λ (x : TableRow). Permitted (jobsOf p) (periodsOf p (x .periods))) (sym e) (g .permitted)))
 
       pub zero-fails : {i : ℕ} → p .n ≤ i → i < 8 → (getD (row .periods) i (seconds 0) .0 ≡ 0 → ⊥) → Checked p bytes (k + 1)
-      zero-fails {i} past to f = named (λ g. f (ap (λ (x : TableRow). getD (x .periods) i (seconds 0) .0) e ∙ g .alone .zeros i past to))
+      zero-fails {i} past to f = named (λ g. f (ap (λ (x : TableRow). getD (x .periods) i (seconds 0) .0) e ∙ g .zeros i past to))
 
     module _ {row : TableRow} {needs : PagesPerHour} {lost : ℕ} (s : Scanned p bytes k row needs lost) where
       pub start-fails : (needs .0 ≡ row .start .0 → ⊥) → Checked p bytes (k + 1)
-      start-fails ne = named (λ g. ne (ap (λ (x : PagesPerHour). x .0) (s .need-is) ∙ g .alone .start ∙ sym (ap (λ (x : PagesPerHour). x .0) (s .start-is))))
+      start-fails ne = named (λ g. ne (ap (λ (x : PagesPerHour). x .0) (s .need-is) ∙ g .start ∙ sym (ap (λ (x : PagesPerHour). x .0) (s .start-is))))
 
       -- the rule of the row before, with that row's numbers in hand
       known : (j : ℕ) → k ≡ j + 1 → follows k before lossBefore (row .start) lost ≡ (ltb (startAt bytes j .0) (startAt bytes k .0) && ltb (lossAt p bytes k) (lossAt p bytes j))
@@ -119,14 +119,14 @@ module _ {p : Profile} {bytes : List ℕ} {before : PagesPerHour} {lossBefore k 
           ∙ ap (λ (i : ℕ). follows i (startAt bytes j) (lossAt p bytes j) (startAt bytes k) (lossAt p bytes k)) e
           ∙ after-one j (startAt bytes j) (startAt bytes k) (lossAt p bytes j) (lossAt p bytes k)
 
-      good-after : ((j : ℕ) → k ≡ j + 1 → GoodAfter p bytes j k) → (n : ℕ) → k ≡ n → follows k before lossBefore (row .start) lost ≡ true
-      good-after h zero e = ap (λ (i : ℕ). follows i before lossBefore (row .start) lost) e ∙ after-none before (row .start) lossBefore lost
-      good-after h (suc j) e =
+      good-after : GoodRow p bytes k → (n : ℕ) → k ≡ n → follows k before lossBefore (row .start) lost ≡ true
+      good-after g zero e = ap (λ (i : ℕ). follows i before lossBefore (row .start) lost) e ∙ after-none before (row .start) lossBefore lost
+      good-after g (suc j) e =
           let f : k ≡ j + 1 = omega arith in
-          known j f ∙ both-hold (lt-ltb _ _ (h j f .start)) (lt-ltb _ _ (h j f .loss))
+          known j f ∙ both-hold (lt-ltb _ _ (g .start-rises j f)) (lt-ltb _ _ (g .loss-falls j f))
 
       pub order-fails : {t : Bool} → t ≡ follows k before lossBefore (row .start) lost → not t ≡ true → Checked p bytes (k + 1)
-      order-fails d f = named (λ g. eqb-false 0 1 refl (ap (λ (t : Bool). cond t 1 0) (sym (not-true _ f) ∙ d ∙ good-after (g .after) k refl)))
+      order-fails d f = named (λ g. eqb-false 0 1 refl (ap (λ (t : Bool). cond t 1 0) (sym (not-true _ f) ∙ d ∙ good-after g k refl)))
 
       pub next-row : {t : Bool} → needs .0 ≡ row .start .0 → t ≡ follows k before lossBefore (row .start) lost → not t ≡ false → RowsLeft p bytes (row .start) lost (k + 1)
       next-row e d f = record {
@@ -136,13 +136,16 @@ module _ {p : Profile} {bytes : List ℕ} {before : PagesPerHour} {lossBefore k 
         loss-is = λ j g. (let same : k ≡ j = omega arith in s .loss-is ∙ ap (lossAt p bytes) same);
       }
         where
-          after : (j : ℕ) → k ≡ j + 1 → GoodAfter p bytes j k
+          after : (j : ℕ) → k ≡ j + 1 → (startAt bytes j .0 < startAt bytes k .0) × (lossAt p bytes k < lossAt p bytes j)
           after j g =
               let both = both-true (ltb (startAt bytes j .0) (startAt bytes k .0)) (sym (known j g) ∙ sym d ∙ not-false _ f) in
-              record { start = ltb-true _ _ (both .0); loss = ltb-true _ _ (both .1) }
+              (ltb-true _ _ (both .0), ltb-true _ _ (both .1))
 
           good : GoodRow p bytes k
           good = record {
-            alone = record { permitted = s .permitted; zeros = s .zeros; start = sym (ap (λ (x : PagesPerHour). x .0) (s .need-is)) ∙ e ∙ ap (λ (x : PagesPerHour). x .0) (s .start-is) };
-            after = after;
+            permitted = s .permitted;
+            zeros = s .zeros;
+            start = sym (ap (λ (x : PagesPerHour). x .0) (s .need-is)) ∙ e ∙ ap (λ (x : PagesPerHour). x .0) (s .start-is);
+            start-rises = λ j g. after j g .0;
+            loss-falls = λ j g. after j g .1;
           }

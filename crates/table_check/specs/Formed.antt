@@ -9,21 +9,14 @@ use Rattle.model.specs.declared.Profile.{Profile}
 use Rattle.model.specs.Model.{seconds, jobsOf, periodsOf, Permitted, rowSize}
 use Rattle.table_row.specs.Table.{rowsIn, startAt, periodsAt, needAt, lossAt}
 
--- A row by itself: permitted periods with zeros beyond n, and a start equal to their need (The table).
-pub record GoodAlone (p : Profile) (bytes : List ℕ) (k : ℕ) : Type 0 where
+-- A good row: permitted periods with zeros beyond n, a start equal to their need and, after the first row, a greater start and a
+-- smaller loss than the row before it (The table).
+pub record GoodRow (p : Profile) (bytes : List ℕ) (k : ℕ) : Type 0 where
   pub permitted : Permitted (jobsOf p) (periodsOf p (periodsAt bytes k))
   pub zeros : (i : ℕ) → p .n ≤ i → i < 8 → getD (periodsAt bytes k) i (seconds 0) .0 ≡ 0
   pub start : needAt p bytes k .0 ≡ startAt bytes k .0
-
--- A row after the row before it: a greater start and a smaller loss (The table).
-pub record GoodAfter (p : Profile) (bytes : List ℕ) (before k : ℕ) : Type 0 where
-  pub start : startAt bytes before .0 < startAt bytes k .0
-  pub loss : lossAt p bytes k < lossAt p bytes before
-
--- A good row: by itself and, after the first row, after the one before it (The table).
-pub record GoodRow (p : Profile) (bytes : List ℕ) (k : ℕ) : Type 0 where
-  pub alone : GoodAlone p bytes k
-  pub after : (j : ℕ) → k ≡ j + 1 → GoodAfter p bytes j k
+  pub start-rises : (before : ℕ) → k ≡ before + 1 → startAt bytes before .0 < startAt bytes k .0
+  pub loss-falls : (before : ℕ) → k ≡ before + 1 → lossAt p bytes k < lossAt p bytes before
 
 -- The first bad row: it is not good, and those before it are (Refusal numbers, 12).
 pub record FirstBadRow (p : Profile) (bytes : List ℕ) (k : ℕ) : Type 0 where

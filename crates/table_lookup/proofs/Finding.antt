@@ -65,7 +65,7 @@ module _ (p : Profile) (bytes : List ℕ) (w : WellFormed p bytes) where
   pub starts-climb : (j i : ℕ) → i < j → j < rowsIn bytes → startAt bytes i .0 < startAt bytes j .0
   starts-climb zero i after less = absurd (not-suc-le-zero after)
   starts-climb (suc j) i after less =
-      let step : startAt bytes j .0 < startAt bytes (suc j) .0 = w .rows (suc j) less .after j (omega arith) .start in
+      let step : startAt bytes j .0 < startAt bytes (suc j) .0 = w .rows (suc j) less .start-rises j (omega arith) in
       ⊎-elim (λ (e : i ≡ j). subst (λ (n : ℕ). startAt bytes n .0 < startAt bytes (suc j) .0) (sym e) step) (λ (more : i < j). omega (arith, starts-climb j i more (omega arith))) (eq-or-lt-of-le (le-of-suc-le-suc after))
 
   pub below-none : (b : PagesPerHour) → b .0 < startAt bytes 0 .0 → (k : ℕ) → Answers bytes b k → ⊥

@@ -83,7 +83,7 @@ module _ (p : Profile) (v : Valid p) where
     module _ (i : ℕ) (less : i < rowsIn bytes) where
       start-small : startAt bytes i .0 < 2 ^ 32
       start-small =
-          let good = all-formed .rows i less .alone in
+          let good = all-formed .rows i less in
           omega (arith, good .start, need-small (jobsOf p) (listAt p bytes i) (v .jobs) (few-jobs p v) (good .permitted))
 
       -- a row answers its own start
@@ -95,8 +95,8 @@ module _ (p : Profile) (v : Valid p) where
         where
           go : {c : Choice} → Outcome (jobsOf p) (startAt bytes i) c → Best (jobsOf p) (startAt bytes i) (listAt p bytes i)
           go (given best) = subst (Best (jobsOf p) (startAt bytes i)) (sym (found-best start-small best) ∙ ap (listAt p bytes) (one-answers bytes (startAt bytes i) _ i (found start-small best) own-start)) best
-          go (none-permitted no-list) = absurd (no-list _ (all-formed .rows i less .alone .permitted))
-          go (none-fit l unfit) = absurd (unfit _ (all-formed .rows i less .alone .permitted) (omega (arith, all-formed .rows i less .alone .start)))
+          go (none-permitted no-list) = absurd (no-list _ (all-formed .rows i less .permitted))
+          go (none-fit l unfit) = absurd (unfit _ (all-formed .rows i less .permitted) (omega (arith, all-formed .rows i less .start)))
 
     -- the rows read are the table
     pub read-table : TableOf (jobsOf p) (rowsRead p bytes)

@@ -22,7 +22,7 @@ use Rattle.table.specs.Table.{tableBytes}
 use Rattle.table.specs.Descent.{StartsRise}
 use Rattle.table_row.specs.Table.{tableWidths, tableRow, rowsIn, rowFields, startAt, periodsAt}
 use Rattle.table_row.proofs.Words.{numbers-again}
-use Rattle.table_check.specs.Formed.{GoodAlone, WellFormed}
+use Rattle.table_check.specs.Formed.{GoodRow, WellFormed}
 use Rattle.table_lookup.proofs.Finding.{starts-climb}
 use Rattle.table_lookup.proofs.Laid.{row-bits}
 
@@ -65,7 +65,7 @@ pub rowsRead : Profile → List ℕ → List (List Seconds)
 rowsRead p bytes = rowsFrom p bytes 0 (rowsIn bytes)
 
 module _ (p : Profile) (bytes : List ℕ) where
-  module _ (k : ℕ) (g : GoodAlone p bytes k) where
+  module _ (k : ℕ) (g : GoodRow p bytes k) where
     -- beyond n both have zeros
     same-period : (j : ℕ) → Dec (j < p .n) → Dec (j < 8) → getD (listAt p bytes k) j (seconds 0) ≡ getD (periodsAt bytes k) j (seconds 0)
     same-period j (yes less) in-eight = getD-entries (seconds 0) (periodsAt bytes k) less
@@ -78,7 +78,7 @@ module _ (p : Profile) (bytes : List ℕ) where
         ap₂ (λ (q : ℕ) (ts : List Seconds). recut tableWidths (byteWidths 16) (q ∷ map (λ t. t .0) ts)) (g .start) (entries-same (seconds 0) (listAt p bytes k) (periodsAt bytes k) 0 8 (λ j. same-period j (decLt j (p .n)) (decLt j 8)))
         ∙ row-kept bytes k h less
 
-  bytes-from : (m k : ℕ) → length bytes ≡ 16 * (k + m) → Bytes bytes → ((i : ℕ) → i < rowsIn bytes → GoodAlone p bytes i) → tableBytes (jobsOf p) (rowsFrom p bytes k m) ≡ drop (16 * k) bytes
+  bytes-from : (m k : ℕ) → length bytes ≡ 16 * (k + m) → Bytes bytes → ((i : ℕ) → i < rowsIn bytes → GoodRow p bytes i) → tableBytes (jobsOf p) (rowsFrom p bytes k m) ≡ drop (16 * k) bytes
   unfolding rowsFrom tableBytes flatMap
   bytes-from zero k size h good = sym (drop-of-length-le bytes {i = 16 * k} (omega arith))
   bytes-from (suc m) k size h good =
@@ -121,7 +121,7 @@ module _ (p : Profile) (bytes : List ℕ) where
             let r = place-from m (k + 1) member in
             let there : r .0 < rowsIn bytes = omega (arith, r .2) in
             let here : k < rowsIn bytes = omega arith in
-            omega (arith, w .rows k here .alone .start, w .rows (r .0) there .alone .start, starts-climb p bytes w (r .0) k (omega (arith, r .1)) there, ap (λ (l : List Seconds). need (jobsOf p) l .0) (r .3))
+            omega (arith, w .rows k here .start, w .rows (r .0) there .start, starts-climb p bytes w (r .0) k (omega (arith, r .1)) there, ap (λ (l : List Seconds). need (jobsOf p) l .0) (r .3))
 
     pub read-rising : StartsRise (jobsOf p) (rowsRead p bytes)
     unfolding rowsRead
@@ -129,4 +129,4 @@ module _ (p : Profile) (bytes : List ℕ) where
 
     pub formed-bytes : Bytes bytes → tableBytes (jobsOf p) (rowsRead p bytes) ≡ bytes
     unfolding rowsRead
-    formed-bytes h = bytes-from (rowsIn bytes) 0 (omega (arith, w .size .whole)) h (λ i less. w .rows i less .alone)
+    formed-bytes h = bytes-from (rowsIn bytes) 0 (omega (arith, w .size .whole)) h (w .rows)

@@ -13,8 +13,8 @@ use Rattle.model.specs.Valid.{Valid}
 use Rattle.model.proofs.Entries.{length-entries}
 use Rattle.table.specs.Table.{TableOf, tableBytes}
 use Rattle.table.proofs.TableRows.{getD-padded}
-use Rattle.table_row.specs.Table.{rowsIn, startAt, periodsAt}
-use Rattle.table_check.specs.Formed.{GoodAlone, GoodAfter, GoodRow, WellFormed}
+use Rattle.table_row.specs.Table.{rowsIn, startAt, periodsAt, lossAt}
+use Rattle.table_check.specs.Formed.{GoodRow, WellFormed}
 use Rattle.table_lookup.proofs.Laid.{Laid, length-table, row-member, permitted-length, few-jobs, laid-alone, start-at, periods-at, list-at, loss-at}
 use Rattle.table_lookup.proofs.InOrder.{table-permitted, starts-rise, losses-fall-along}
 
@@ -39,26 +39,24 @@ module _ (p : Profile) (v : Valid p) {rows : List (List Seconds)} (t : TableOf (
         ap (λ (us : List Seconds). getD us i (seconds 0) .0) row-periods
         ∙ ap (λ (u : Seconds). u .0) (getD-padded ts (8 - length ts) i ∙ List·getD-eq-default ts (seconds 0) end)
 
-    good-alone : GoodAlone p bytes k
-    good-alone =
-        let list = list-at p v (table-permitted t) l k less in
-        record {
-          permitted = subst (Permitted (jobsOf p)) (sym list) row-permitted;
-          zeros = λ i past to. zeros i past;
-          start = ap (λ (us : List Seconds). need (jobsOf p) us .0) list ∙ sym start-number;
-        }
-
-  good-after : (j k : ℕ) → k ≡ j + 1 → k < length rows → GoodAfter p bytes j k
-  good-after j k e less =
+  in-order : (j k : ℕ) → k ≡ j + 1 → k < length rows → (startAt bytes j .0 < startAt bytes k .0) × (lossAt p bytes k < lossAt p bytes j)
+  in-order j k e less =
       let before : j < k = omega arith in
-      let there : j < length rows = omega arith in
-      record {
-        start = omega (arith, start-number j there, start-number k less, starts-rise t j k before less);
-        loss = omega (arith, loss-at p v (table-permitted t) l j there, loss-at p v (table-permitted t) l k less, losses-fall-along t j k before less);
-      }
+      let there : j < length rows = omega arith in (
+        omega (arith, start-number j there, start-number k less, starts-rise t j k before less),
+        omega (arith, loss-at p v (table-permitted t) l j there, loss-at p v (table-permitted t) l k less, losses-fall-along t j k before less),
+      )
 
   pub rows-good : (k : ℕ) → k < length rows → GoodRow p bytes k
-  rows-good k less = record { alone = good-alone k less; after = λ j e. good-after j k e less }
+  rows-good k less =
+      let list = list-at p v (table-permitted t) l k less in
+      record {
+        permitted = subst (Permitted (jobsOf p)) (sym list) (row-permitted k less);
+        zeros = λ i past to. zeros k less i past;
+        start = ap (λ (us : List Seconds). need (jobsOf p) us .0) list ∙ sym (start-number k less);
+        start-rises = λ j e. in-order j k e less .0;
+        loss-falls = λ j e. in-order j k e less .1;
+      }
 
 -- as many rows are read as were laid
 pub rows-in : (p : Profile) (rows : List (List Seconds)) → rowsIn (tableBytes (jobsOf p) rows) ≡ length rows
