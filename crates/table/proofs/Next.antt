@@ -1,6 +1,6 @@
 -- The next answers below a limit are the last rows of the table there, from the back: each is the last row of what the rows before it left.
 -- Assumes nothing.
-use mathlib.Core.Path.{_≡_, sym, _∙_, ap, subst}
+use mathlib.Core.Path.{_≡_, sym, _∙_, ap}
 use mathlib.Core.List.{List, [], _∷_, _++_, map, reverse, append-nil, append-assoc, reverse-cons}
 use Prim.Native.Nat.{ℕ, suc, _+_, _-_, _≤_, _<_}
 use native.Mathlib.Omega.{arith}
@@ -13,7 +13,7 @@ use Rattle.model.specs.Model.{jobsOf}
 use Rattle.model.specs.Valid.{ValidJobs, Valid}
 use Rattle.table_stairs.specs.Stairs.{Stair, stair}
 use Rattle.table_stairs.specs.Rows.{needIn, stairAt, stairsIn}
-use Rattle.table_climb.specs.Next.{Answer, NextAnswers, lastNeed, AnswersUnder, AnswersBelow}
+use Rattle.table_climb.specs.Next.{Answer, NextAnswers, lastNeed, AnswersUnder, AnswersIn}
 use Rattle.table_stairs.proofs.Rows.{rows-length}
 use Rattle.table_climb.proofs.Answers.{need-last, limit-falls}
 use Rattle.table.specs.Descent.{rowsBelow}
@@ -44,31 +44,25 @@ module _ (js : List Job) (v : ValidJobs js) where
   rows-no-answer b rows a e = rows-none js v b (a .none e)
 
 -- a batch, as the functions of this crate get it
-module _ {p : Profile} (v : Valid p) {limit found : ℕ} {flat : List ℕ} (more : 0 < limit) (b : AnswersBelow p limit found flat) where
+module _ {p : Profile} (v : Valid p) {budget : PagesPerHour} {found : ℕ} {flat : List ℕ} (b : AnswersIn p budget found flat) where
   abbrev batch : List Stair
   batch = stairsIn (p .n) found flat
-
-  same-limit : suc (limit - 1) ≡ limit
-  same-limit = omega arith
 
   pub batch-length : length (stairsIn (p .n) found flat) ≡ found
   batch-length = rows-length (p .n) flat 0 found
 
-  pub batch-next : NextAnswers (jobsOf p) limit (stairsIn (p .n) found flat)
-  batch-next = subst (λ (m : ℕ). NextAnswers (jobsOf p) m batch) same-limit (b .under .next)
-
-  pub batch-need : 0 < found → needIn flat (found - 1) ≡ lastNeed limit (stairsIn (p .n) found flat)
+  pub batch-need : 0 < found → needIn flat (found - 1) ≡ lastNeed (suc (budget .0)) (stairsIn (p .n) found flat)
   unfolding stairAt
   batch-need some =
       let d = stair 0 0 [] in
       let last : length batch ≡ suc (found - 1) = omega (arith, batch-length) in
-      sym (ap (λ (r : Stair). r .its-need) (b .rows d (found - 1) (omega arith))) ∙ sym (need-last d limit batch (found - 1) last)
+      sym (ap (λ (r : Stair). r .its-need) (b .rows d (found - 1) (omega arith))) ∙ sym (need-last d _ batch (found - 1) last)
 
-  pub batch-count : length (rowsBelow (jobsOf p) limit) ≡ length (rowsBelow (jobsOf p) (lastNeed limit (stairsIn (p .n) found flat))) + found
-  batch-count = omega (arith, count-next (jobsOf p) (v .jobs) limit batch batch-next, batch-length)
+  pub batch-count : length (rowsBelow (jobsOf p) (suc (budget .0))) ≡ length (rowsBelow (jobsOf p) (lastNeed (suc (budget .0)) (stairsIn (p .n) found flat))) + found
+  batch-count = omega (arith, count-next (jobsOf p) (v .jobs) _ batch (b .under .next), batch-length)
 
-  pub batch-falls : lastNeed limit (stairsIn (p .n) found flat) + found ≤ limit
-  batch-falls = omega (arith, limit-falls (jobsOf p) limit batch batch-next, batch-length)
+  pub batch-falls : lastNeed (suc (budget .0)) (stairsIn (p .n) found flat) + found ≤ suc (budget .0)
+  batch-falls = omega (arith, limit-falls (jobsOf p) _ batch (b .under .next), batch-length)
 
-  pub batch-none : found ≡ 0 → rowsBelow (jobsOf p) limit ≡ []
-  batch-none e = ap (rowsBelow (jobsOf p)) (sym same-limit) ∙ rows-no-answer (jobsOf p) (v .jobs) _ batch (b .under) (batch-length ∙ e)
+  pub batch-none : found ≡ 0 → rowsBelow (jobsOf p) (suc (budget .0)) ≡ []
+  batch-none e = rows-no-answer (jobsOf p) (v .jobs) budget batch (b .under) (batch-length ∙ e)

@@ -21,13 +21,13 @@ use Rattle.table_row.specs.Table.{tableRow}
 use Rattle.table_row.proofs.Words.{length-table-row, row-of-front}
 use Rattle.table_stairs.specs.Stairs.{Stair, stair}
 use Rattle.table_stairs.specs.Rows.{needIn, stairPeriods, stairAt, stairsIn, Legible}
-use Rattle.table_climb.specs.Next.{Answer, lastNeed, AnswersBelow}
-use Rattle.table_climb.proofs.Answers.{answer-at, need-at, answer-below}
+use Rattle.table_climb.specs.Next.{Answer, lastNeed, AnswersIn}
+use Rattle.table_climb.proofs.Answers.{answer-at, need-at}
 use Rattle.table_batch.specs.Batch.{batchRow, withBatch}
 use Rattle.table.specs.Table.{tableBytes}
 use Rattle.table.specs.Descent.{rowsBelow, allBudgets}
 use Rattle.table.proofs.Descent.{rows-zero}
-use Rattle.table.proofs.Next.{rows-answer, batch-length, batch-next, batch-need, batch-count, batch-none}
+use Rattle.table.proofs.Next.{rows-answer, batch-length, batch-need, batch-count, batch-none}
 
 -- zeros behind a list are what stands beyond it
 getD-zeros : (k i : ℕ) → getD (replicate k (seconds 0)) i (seconds 0) ≡ seconds 0
@@ -59,7 +59,6 @@ pub record Writing (js : List Job) (count : ℕ) (old out : List ℕ) (row limit
   pub written : List (List Seconds)
   pub whole : rowsBelow js allBudgets ≡ rowsBelow js limit ++ written
   pub left : row ≡ length (rowsBelow js limit)
-  pub within : limit ≤ 2 ^ 32
   pub upto : row ≤ count
   pub same : length out ≡ length old
   pub bytes : out ≡ take (rowSize * row) old ++ (tableBytes js written ++ drop (rowSize * count) old)
@@ -71,7 +70,6 @@ module _ (js : List Job) (count : ℕ) (old : List ℕ) where
     written = [];
     whole = sym (append-nil _);
     left = e;
-    within = le-refl _;
     upto = le-refl _;
     same = refl;
     bytes = sym (take-append-drop (rowSize * count) old);
@@ -87,15 +85,6 @@ module _ (js : List Job) (count : ℕ) (old : List ℕ) where
         nil-of-zero : (l : List (List Seconds)) → length l ≡ 0 → l ≡ []
         nil-of-zero [] d = refl
         nil-of-zero (x ∷ l) d = absurd (omega arith)
-
-    pub limit-left : 0 < row → 0 < limit
-    limit-left more = go (decLt 0 limit)
-      where
-        go : Dec (0 < limit) → 0 < limit
-        go (yes h) = h
-        go (no h) =
-            let z : limit ≡ 0 = omega arith in
-            absurd (omega (arith, i .left, ap length (ap (rowsBelow js) z ∙ rows-zero js)))
 
     one-written : ValidJobs js → {r : Stair} → Answer js limit r → count ≤ length old / rowSize →
         Writing js count old (withRow out (row - 1) (tableRow (need js (r .periods)) (r .periods))) (row - 1) (r .its-need)
@@ -117,55 +106,55 @@ module _ (js : List Job) (count : ℕ) (old : List ℕ) where
           written = ts ∷ i .written;
           whole = i .whole ∙ ap (λ (l : List (List Seconds)). l ++ i .written) step ∙ append-assoc (rowsBelow js (r .its-need)) (ts ∷ []) (i .written);
           left = omega arith;
-          within = omega (arith, i .within, answer-below a);
           upto = omega (arith, i .upto);
           same = row-length out (row - 1) (need js ts) ts inside ∙ i .same;
           bytes = row-in out R (row - 1) inside ∙ ap₂ (λ (a b : List ℕ). a ++ (R ++ b)) before-it after-it ∙ ap (λ (l : List ℕ). take (rowSize * (row - 1)) old ++ l) (sym (append-assoc R T D));
         }
 
-module _ {p : Profile} {count : ℕ} {old : List ℕ} (v : Valid p) (room : count ≤ length old / rowSize) {out : List ℕ} {row limit found : ℕ} {flat : List ℕ} (i : Writing (jobsOf p) count old out row limit) (more : 0 < row) (b : AnswersBelow p limit found flat) where
-  from : 0 < limit
-  from = limit-left (jobsOf p) count old out row limit i more
+  -- no budget is left
+  pub last-written : {out : List ℕ} {row : ℕ} → Writing js count old out row 0 → out ≡ tableBytes js (rowsBelow js allBudgets) ++ drop (rowSize * count) old
+  last-written i = all-written _ _ _ i (omega (arith, i .left, ap length (rows-zero js)))
 
+module _ {p : Profile} {count : ℕ} {old : List ℕ} (v : Valid p) (room : count ≤ length old / rowSize) {out : List ℕ} {budget : PagesPerHour} {row found : ℕ} {flat : List ℕ} (i : Writing (jobsOf p) count old out row (suc (budget .0))) (b : AnswersIn p budget found flat) where
   -- there are rows left, so some are found, and no more than those
-  pub some-found : 0 < found
-  some-found = go (decLt 0 found)
+  pub some-found : 0 < row → 0 < found
+  some-found more = go (decLt 0 found)
     where
       go : Dec (0 < found) → 0 < found
       go (yes h) = h
-      go (no h) = absurd (omega (arith, i .left, ap length (batch-none v from b (omega arith))))
+      go (no h) = absurd (omega (arith, i .left, ap length (batch-none v b (omega arith))))
 
   pub found-left : found ≤ row
-  found-left = omega (arith, i .left, batch-count v from b)
+  found-left = omega (arith, i .left, batch-count v b)
 
   -- one row of the batch more
-  next-written : (k : ℕ) → k < found → Writing (jobsOf p) count old (withBatch flat row k out) (row - k) (lastNeed limit (take k (stairsIn (p .n) found flat))) →
-      Writing (jobsOf p) count old (withBatch flat row (suc k) out) (row - suc k) (lastNeed limit (take (suc k) (stairsIn (p .n) found flat)))
+  next-written : (k : ℕ) → k < found → Writing (jobsOf p) count old (withBatch flat row k out) (row - k) (lastNeed (suc (budget .0)) (take k (stairsIn (p .n) found flat))) →
+      Writing (jobsOf p) count old (withBatch flat row (suc k) out) (row - suc k) (lastNeed (suc (budget .0)) (take (suc k) (stairsIn (p .n) found flat)))
   unfolding withBatch
   next-written k less w =
       let d = stair 0 0 [] in
       let rows = stairsIn (p .n) found flat in
-      let inside : k < length rows = omega (arith, batch-length v from b) in
+      let inside : k < length rows = omega (arith, batch-length v b) in
       let place : row - k - 1 ≡ row - 1 - k = omega arith in
       let left : row - k - 1 ≡ row - suc k = omega arith in
       let r = stairAt (p .n) flat k in
-      let answer = subst (Answer (jobsOf p) (lastNeed limit (take k rows))) (b .rows d k less) (answer-at d limit rows k (batch-next v from b) inside) in
-      let one = one-written (jobsOf p) count old (withBatch flat row k out) (row - k) (lastNeed limit (take k rows)) w (v .jobs) answer room in
-      subst (Writing (jobsOf p) count old (withBatch flat row (suc k) out) (row - suc k)) (sym (need-at d limit rows k inside ∙ ap (λ (x : Stair). x .its-need) (b .rows d k less)))
+      let answer = subst (Answer (jobsOf p) (lastNeed (suc (budget .0)) (take k rows))) (b .rows d k less) (answer-at d _ rows k (b .under .next) inside) in
+      let one = one-written (jobsOf p) count old (withBatch flat row k out) (row - k) (lastNeed (suc (budget .0)) (take k rows)) w (v .jobs) answer room in
+      subst (Writing (jobsOf p) count old (withBatch flat row (suc k) out) (row - suc k)) (sym (need-at d _ rows k inside ∙ ap (λ (x : Stair). x .its-need) (b .rows d k less)))
       (subst (λ (m : ℕ). Writing (jobsOf p) count old (withBatch flat row (suc k) out) m (r .its-need)) left
       (subst (λ (R : List ℕ). Writing (jobsOf p) count old (withRow (withBatch flat row k out) (row - 1 - k) R) (row - k - 1) (r .its-need)) (sym (answer-row (p .n) flat k answer (b .legible k less)))
       (subst (λ (m : ℕ). Writing (jobsOf p) count old (withRow (withBatch flat row k out) m (tableRow (need (jobsOf p) (r .periods)) (r .periods))) (row - k - 1) (r .its-need)) place one)))
 
-  none-yet : Writing (jobsOf p) count old (withBatch flat row 0 out) (row - 0) (lastNeed limit (take 0 (stairsIn (p .n) found flat)))
+  none-yet : Writing (jobsOf p) count old (withBatch flat row 0 out) (row - 0) (lastNeed (suc (budget .0)) (take 0 (stairsIn (p .n) found flat)))
   unfolding withBatch lastNeed
   none-yet = rw sub-zero i
 
-  rows-written : (k : ℕ) → k ≤ found → Writing (jobsOf p) count old (withBatch flat row k out) (row - k) (lastNeed limit (take k (stairsIn (p .n) found flat)))
+  rows-written : (k : ℕ) → k ≤ found → Writing (jobsOf p) count old (withBatch flat row k out) (row - k) (lastNeed (suc (budget .0)) (take k (stairsIn (p .n) found flat)))
   rows-written zero le = none-yet
   rows-written (suc k) le = next-written k le (rows-written k (omega arith))
 
-  pub batch-written : {new : List ℕ} {next : ℕ} → new ≡ withBatch flat row found out → next ≡ needIn flat (found - 1) → Writing (jobsOf p) count old new (row - found) next
-  batch-written e is =
+  pub batch-written : 0 < row → {new : List ℕ} {next : ℕ} → new ≡ withBatch flat row found out → next ≡ needIn flat (found - 1) → Writing (jobsOf p) count old new (row - found) next
+  batch-written more e is =
       let rows = stairsIn (p .n) found flat in
-      let all : take found rows ≡ rows = ap (λ (k : ℕ). take k rows) (sym (batch-length v from b)) ∙ take-length rows in
-      rw (e, is, batch-need v from b some-found) (subst (λ (l : List Stair). Writing (jobsOf p) count old (withBatch flat row found out) (row - found) (lastNeed limit l)) all (rows-written found (le-refl found)))
+      let all : take found rows ≡ rows = ap (λ (k : ℕ). take k rows) (sym (batch-length v b)) ∙ take-length rows in
+      rw (e, is, batch-need v b (some-found more)) (subst (λ (l : List Stair). Writing (jobsOf p) count old (withBatch flat row found out) (row - found) (lastNeed (suc (budget .0)) l)) all (rows-written found (le-refl found)))

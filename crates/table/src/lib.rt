@@ -6,6 +6,7 @@
 // The best periods for a budget are also best for every budget from their need on. So the rows are the best periods for the
 // greatest budget, then the best below their need, and so on until nothing fits; each walk collects a batch of them.
 use model::Counted;
+use model::PagesPerHour;
 use model::Profile;
 use model::Verdict;
 ghost use mathlib.Core.Path.{_≡_};
@@ -17,8 +18,7 @@ ghost use Rattle.model.specs.Valid.{Valid};
 ghost use Rattle.table.specs.Table.{tableBytes, Built};
 ghost use Rattle.table.specs.Descent.{rowsBelow, allBudgets};
 
-// One more than the greatest budget.
-const ALL_BUDGETS: u64 = 0x1_0000_0000;
+const GREATEST_BUDGET: PagesPerHour = PagesPerHour(0xffff_ffff);
 
 // Writes the budget table to the front of `out`, or refuses: the profile's own refusal, 9, then 11 with the rows needed.
 pub fn build_table(p: Profile, out: &mut [u8]) -> Counted
@@ -53,16 +53,19 @@ fn count_rows(p: Profile) -> u64
 {
     let mut rows = [0u64; 768];
     let mut count: u64 = 0;
-    let mut limit = ALL_BUDGETS;
-    while 0 < limit {
-        let found = table_climb::answers_below(p, limit, &mut rows);
+    let mut budget = GREATEST_BUDGET;
+    loop {
+        let found = table_climb::answers_under(p, budget, &mut rows);
         if found == 0 {
             return count;
         }
         count += found as u64;
-        limit = table_batch::last_need(&rows, found).0 as u64;
+        let need = table_batch::last_need(&rows, found);
+        if need.0 == 0 {
+            return count;
+        }
+        budget = PagesPerHour(need.0 - 1);
     }
-    count
 }
 
 // The rows to the front of `out`, which has room for them, the last one first.
@@ -72,11 +75,15 @@ fn write_rows(p: Profile, count: usize, out: &mut [u8])
 {
     let mut rows = [0u64; 768];
     let mut left = count;
-    let mut limit = ALL_BUDGETS;
+    let mut budget = GREATEST_BUDGET;
     while 0 < left {
-        let found = table_climb::answers_below(p, limit, &mut rows);
+        let found = table_climb::answers_under(p, budget, &mut rows);
         table_batch::write_batch(&rows, found, left, out);
         left -= found;
-        limit = table_batch::last_need(&rows, found).0 as u64;
+        let need = table_batch::last_need(&rows, found);
+        if need.0 == 0 {
+            return;
+        }
+        budget = PagesPerHour(need.0 - 1);
     }
 }

@@ -4,4 +4,4 @@ pub mod Climbing
 pub mod Fold
 pub mod Next
 pub mod Answers
-pub mod Below
+pub mod Collected

@@ -2,13 +2,13 @@
 -- Contracts of inner functions cite this, and those of no entry point. Assumes nothing.
 use mathlib.Core.Path.{_≡_}
 use mathlib.Core.List.{List, [], _∷_}
-use Prim.Native.Nat.{ℕ, suc, _-_, _≤_, _<_}
+use Prim.Native.Nat.{ℕ, suc, _≤_, _<_}
 use lib.ListN.{length, getD}
 use Rattle.model.specs.declared.Seconds.{Seconds}
 use Rattle.model.specs.declared.PagesPerHour.{PagesPerHour}
 use Rattle.model.specs.declared.Job.{Job}
 use Rattle.model.specs.declared.Profile.{Profile}
-use Rattle.model.specs.Model.{pagesPerHour, jobsOf, Permitted, need, FitsBudget, loss, Best}
+use Rattle.model.specs.Model.{jobsOf, Permitted, need, FitsBudget, loss, Best}
 use Rattle.table_stairs.specs.Stairs.{Stair}
 use Rattle.table_stairs.specs.Rows.{most, stairAt, stairsIn, Legible}
 
@@ -35,10 +35,10 @@ pub record AnswersUnder (js : List Job) (b : PagesPerHour) (rows : List Stair) :
   pub next : NextAnswers js (suc (b .0)) rows
   pub none : length rows ≡ 0 → (ts : List Seconds) → Permitted js ts → FitsBudget js ts b → ⊥
 
--- The first r rows of an array are the next answers for the budgets below `limit`.
-pub record AnswersBelow (p : Profile) (limit r : ℕ) (flat : List ℕ) : Type 0 where
+-- The first r rows of an array are the next answers under a budget.
+pub record AnswersIn (p : Profile) (b : PagesPerHour) (r : ℕ) (flat : List ℕ) : Type 0 where
   pub size : length flat ≡ 768
   pub few : r ≤ most
-  pub under : AnswersUnder (jobsOf p) (pagesPerHour (limit - 1)) (stairsIn (p .n) r flat)
+  pub under : AnswersUnder (jobsOf p) b (stairsIn (p .n) r flat)
   pub rows : (d : Stair) (k : ℕ) → k < r → getD (stairsIn (p .n) r flat) k d ≡ stairAt (p .n) flat k
   pub legible : (k : ℕ) → k < r → Legible (p .n) flat k

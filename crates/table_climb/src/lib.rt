@@ -8,25 +8,22 @@ use model::Seconds;
 use table_stairs::BOUND;
 use table_stairs::COUNT;
 ghost use mathlib.Core.Path.{_≡_};
-ghost use Prim.Native.Nat.{_^_, _≤_, _<_};
 ghost use lib.ListN.{length};
 ghost use Rattle.model.specs.Valid.{Valid};
 ghost use Rattle.walk.specs.Steps.{Ready};
 ghost use Rattle.table_stairs.specs.Rows.{Standing};
-ghost use Rattle.table_climb.specs.Next.{AnswersBelow};
+ghost use Rattle.table_climb.specs.Next.{AnswersIn};
 ghost use Rattle.table_climb.specs.Steps.{Climbs, Begins, Collects};
 
 // More than any loss.
 const NO_BOUND: u64 = 0xffff_ffff_ffff_ffff;
 
-// The next answers for the budgets below `limit` go to the front of `rows`, at most 256 of them in rising loss and falling
-// need; answers how many.
-pub fn answers_below(p: Profile, limit: u64, rows: &mut [u64; 768]) -> usize
+// The next answers under a budget go to the front of `rows`, at most 256 of them in rising loss and falling need; answers
+// how many.
+pub fn answers_under(p: Profile, budget: PagesPerHour, rows: &mut [u64; 768]) -> usize
     requires { ⌜ Valid p ⌝ }
-    requires { ⌜ 0 < limit ⌝ }
-    requires { ⌜ limit ≤ 2 ^ 32 ⌝ }
     requires { ⌜ length (now rows) ≡ 768 ⌝ }
-    ensures { λ r. ⌜ AnswersBelow p limit r (now (rows .exit)) ⌝ }
+    ensures { λ r. ⌜ AnswersIn p budget r (now (rows .exit)) ⌝ }
 {
     let seconds = walk::seconds_of(p);
     let pages = walk::pages_of(p);
@@ -38,12 +35,12 @@ pub fn answers_below(p: Profile, limit: u64, rows: &mut [u64; 768]) -> usize
         &rates,
         &stiffnesses,
         p.n as usize,
-        PagesPerHour((limit - 1) as u32),
+        budget,
         rows,
     )
 }
 
-// The same under a budget: the profile's numbers are lent as arrays.
+// The same with the profile's numbers lent as arrays.
 fn next_answers(
     seconds: &[u32; 16],
     pages: &[u32; 16],

@@ -1,11 +1,11 @@
--- `table_climb::answers_below` meets its contract: the arrays hold the jobs, so what the walk collects are the next answers.
+-- `table_climb::answers_under` meets its contract: the arrays hold the jobs, so what the walk collects are the next answers.
 -- Assumes nothing.
 use borrow.Author.Needs.{needs}
 use Rattle.walk.proofs.Filled.{all-held}
 use Rattle.walk.proofs.Cuts.{ready-start}
-use Rattle.table_climb.proofs.Below.{collected-below}
-use Rattle.table_climb.proofs.answers_below.Statement.{statement}
-use Rattle.table_climb.proofs.answers_below.Tie as tie
+use Rattle.table_climb.proofs.Collected.{collected-answers}
+use Rattle.table_climb.proofs.answers_under.Statement.{statement}
+use Rattle.table_climb.proofs.answers_under.Tie as tie
 
 seconds-of-requires : tie.Need-seconds-of-requires
 seconds-of-requires c κs = search needs
@@ -22,19 +22,13 @@ stiffnesses-of-requires c κs = search needs
 cast-next-answers : tie.Need-cast-next-answers
 cast-next-answers c = search needs
 
-sub-t16 : tie.Need-sub-t16
-sub-t16 c = search needs
-
-cast-t17 : tie.Need-cast-t17
-cast-t17 c = search needs
-
 next-answers-requires : tie.Need-next-answers-requires
 next-answers-requires c κs =
     let w = c .before .before .before .before .before .before in
     let r = w .before in
     let a = r .before in
     let s = a .before in
-    (ready-start (all-held (s .before .pre .0) (s .seconds-of .ensures) (a .pages-of .ensures) (r .rates-of .ensures) (w .stiffnesses-of .ensures)), s .before .pre .1 .1 .1)
+    (ready-start (all-held (s .before .pre .0) (s .seconds-of .ensures) (a .pages-of .ensures) (r .rates-of .ensures) (w .stiffnesses-of .ensures)), s .before .pre .1)
 
 returns : tie.Need-returns
 returns c =
@@ -42,10 +36,10 @@ returns c =
     let r = w .before in
     let a = r .before in
     let s = a .before in
-    collected-below (s .before .pre .0) (all-held (s .before .pre .0) (s .seconds-of .ensures) (a .pages-of .ensures) (r .rates-of .ensures) (w .stiffnesses-of .ensures)) (c .next-answers .ensures)
+    collected-answers (s .before .pre .0) (all-held (s .before .pre .0) (s .seconds-of .ensures) (a .pages-of .ensures) (r .rates-of .ensures) (w .stiffnesses-of .ensures)) (c .next-answers .ensures)
 
-pub answers-below-spec : {M : Type 1} → statement M
-answers-below-spec =
+pub answers-under-spec : {M : Type 1} → statement M
+answers-under-spec =
     tie.close
     (tie.spec
     seconds-of-requires
@@ -53,7 +47,5 @@ answers-below-spec =
     rates-of-requires
     stiffnesses-of-requires
     cast-next-answers
-    sub-t16
-    cast-t17
     next-answers-requires
     returns)
