@@ -211,10 +211,3 @@ fn longer(a: Seconds, b: Seconds) -> Seconds
     }
     a
 }
-
-// The same number in 64 bits.
-pub fn wide(x: u32) -> u64
-    ensures { λ r. ⌜ r ≡ x ⌝ }
-{
-    x as u64
-}
