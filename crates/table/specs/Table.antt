@@ -26,7 +26,7 @@ unfoldable pub tableBytes : List Job → List (List Seconds) → List ℕ
 tableBytes js rows = flatMap (λ ts. tableRow (need js ts) ts) rows
 
 -- What `build_table` may answer, and leave of a lent buffer that held `old`; for a refused profile nothing is said of `rows`.
--- There are no rows, and so 9 is answered, exactly where no list is permitted (Refusal numbers, 9).
+-- For a sound one there are no rows, and so 9 is answered, exactly where no list is permitted (Refusal numbers, 9).
 pub record Built (p : Profile) (old : List ℕ) (r : Counted) (new : List ℕ) : Type 0 where
   pub rows : List (List Seconds)
   pub are : verdictOf p ≡ Sound → TableOf (jobsOf p) rows

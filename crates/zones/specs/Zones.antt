@@ -51,7 +51,7 @@ unfoldable pub rowsOf : List Zone → List ℕ
 rowsOf zs = flatMap (λ z. recut zoneWidths (byteWidths rowSize) (zoneFields z)) zs
 
 -- What `list_zones` may answer, and leave of a lent buffer that held `old`; for a refused profile nothing is said of `zones`.
--- There are no zones, and so 9 is answered, exactly where no list is permitted (Refusal numbers, 9).
+-- For a sound one there are no zones, and so 9 is answered, exactly where no list is permitted (Refusal numbers, 9).
 pub record Listed (p : Profile) (old : List ℕ) (r : Counted) (new : List ℕ) : Type 0 where
   pub zones : List Zone
   pub are : verdictOf p ≡ Sound → ZonesOf (jobsOf p) zones
