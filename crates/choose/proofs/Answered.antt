@@ -38,8 +38,8 @@ permitted-to before [] (suc n) (x ∷ xs) v h k less = absurd h
 permitted-to before (j ∷ js) (suc n) (x ∷ xs) v h zero less = le-trans (h .0 .below) (v .0 .hi-to)
 permitted-to before (j ∷ js) (suc n) (x ∷ xs) v h (suc k) less = permitted-to (seconds x) js n xs (v .1) (h .1) k (omega arith)
 
-module _ {spans runs rates weights : List ℕ} {n : ℕ} {js : List Job} (held : Held spans runs rates weights 0 n js) where
-  module _ {b : PagesPerHour} {ps ps′ best best′ : List ℕ} (w : Walks spans runs rates weights 0 n b (seconds 1) 0 0 ps ps′ best best′) (begun : getD best 9 0 ≡ noPlan) where
+module _ {spans pages rates stiffnesses : List ℕ} {n : ℕ} {js : List Job} (held : Held spans pages rates stiffnesses 0 n js) where
+  module _ {b : PagesPerHour} {ps ps′ best best′ : List ℕ} (w : Walks spans pages rates stiffnesses 0 n b (seconds 1) 0 0 ps ps′ best best′) (begun : getD best 9 0 ≡ noPlan) where
     best-or-none : BestOrNone js b (foundIn n best′)
     best-or-none = subst (BestOrNone js b) (sym (w .walked .is js held ∙ ap (walk (pick (b .0)) js start) (no-plan-found n best begun))) (walk-best js b (held-valid js held))
 
@@ -59,13 +59,13 @@ module _ {spans runs rates weights : List ℕ} {n : ℕ} {js : List Job} (held :
     plan-right some = settled js b (found (getD best′ 8 0) (getD best′ 9 0) (periodsIn n best′)) (walkDown lessNeed js start none) (best-found some) (walk-least down-lists js (held-valid js held))
 
     -- none was found: the least need, if there is one
-    module _ (no-plan : getD best′ 9 0 ≡ noPlan) (r : PagesPerHour) (l : Lessens spans runs rates 0 n (seconds 1) 0 (pagesPerHour noNeed) r) where
+    module _ (no-plan : getD best′ 9 0 ≡ noPlan) (r : PagesPerHour) (l : Lessens spans pages rates 0 n (seconds 1) 0 (pagesPerHour noNeed) r) where
       none-found : BestOrNone js b nothing
       none-found = subst (BestOrNone js b) (no-plan-found n best′ no-plan) best-or-none
 
       least-or-none : LeastOrNone js (leastIn r)
       unfolding leastIn
-      least-or-none = subst (LeastOrNone js) (sym (l weights js 0 [] held)) (walk-least down-lists js (held-valid js held))
+      least-or-none = subst (LeastOrNone js) (sym (l stiffnesses js 0 [] held)) (walk-least down-lists js (held-valid js held))
 
       pub none-right : r .0 ≡ noNeed → Outcome js b (refused NoPeriods)
       unfolding settle

@@ -57,7 +57,7 @@ keeps-least {m} h q l ts k≤ l≤ = let e : min q m ≡ m = omega arith in ap l
 module _ {spans rates : List ℕ} {i n : ℕ} {t : Seconds} {written : ℕ} (r : ReadyForCut spans rates i n t written) (had : PagesPerHour) where
   -- the cut by the need floor
   pub floor-not-less : had .0 ≤ needAt written t + getD rates (8 + i) 0 → LessensNothing spans rates i n t written had
-  floor-not-less over runs weights js lost ts h =
+  floor-not-less over pages stiffnesses js lost ts h =
       let to = need-floor-to (r .ready) in
       let is = need-floor-is js t written h in
       let some = some-least had (λ e. omega arith) in
@@ -66,51 +66,51 @@ module _ {spans rates : List ℕ} {i n : ℕ} {t : Seconds} {written : ℕ} (r :
 
   -- the cut by reach
   pub unreached-not-less : Unreached spans i n t → LessensNothing spans rates i n t written had
-  unreached-not-less u runs weights js lost ts h = unreached down-lists lessNeed (leastIn had) js (node t written lost ts) (r .ready .from) h u
+  unreached-not-less u pages stiffnesses js lost ts h = unreached down-lists lessNeed (leastIn had) js (node t written lost ts) (r .ready .from) h u
 
 -- Before each turn: t is the period whose turn it is, and the walk from it down, begun with what is had, ends as the whole walk does.
-pub record Down (spans runs rates : List ℕ) (i n : ℕ) (step : Seconds) (written : ℕ) (had now : PagesPerHour) (t : Seconds) : Type 0 where
+pub record Down (spans pages rates : List ℕ) (i n : ℕ) (step : Seconds) (written : ℕ) (had now : PagesPerHour) (t : Seconds) : Type 0 where
   pub multiple : t .0 % step .0 ≡ 0
   pub below : t .0 ≤ getD spans (8 + i) 0
-  pub is : (weights : List ℕ) (j : Job) (js : List Job) (lost : ℕ) (ts : List Seconds) → Held spans runs rates weights i n (j ∷ js) →
+  pub is : (stiffnesses : List ℕ) (j : Job) (js : List Job) (lost : ℕ) (ts : List Seconds) → Held spans pages rates stiffnesses i n (j ∷ js) →
       walkDownFrom lessNeed j js (node step written lost ts) t (leastIn now) ≡ walkDown lessNeed (j ∷ js) (node step written lost ts) (leastIn had)
 
-module _ {spans runs rates : List ℕ} {i n : ℕ} {step : Seconds} {written : ℕ} (r : ReadyForNeed spans runs rates i n step written) where
+module _ {spans pages rates : List ℕ} {i n : ℕ} {step : Seconds} {written : ℕ} (r : ReadyForNeed spans pages rates i n step written) where
   -- the last job has its period: one plan, its need
-  pub down-leaf : i ≡ n → (had q r : PagesPerHour) → q ≡ pagesPerHour (needAt written step) → r .0 ≡ min (q .0) (had .0) → Lessens spans runs rates i n step written had r
+  pub down-leaf : i ≡ n → (had q r : PagesPerHour) → q ≡ pagesPerHour (needAt written step) → r .0 ≡ min (q .0) (had .0) → Lessens spans pages rates i n step written had r
   unfolding needAt walkBy
-  down-leaf e had q m is smaller weights js lost ts h =
-      let empty : js ≡ [] = held-none js (subst (λ (x : ℕ). Held spans runs rates weights x n js) e h) in
+  down-leaf e had q m is smaller stiffnesses js lost ts h =
+      let empty : js ≡ [] = held-none js (subst (λ (x : ℕ). Held spans pages rates stiffnesses x n js) e h) in
       let small = need-to (ready-need (r .ready)) in
       let at : q .0 ≡ needAt written step = ap (λ (x : PagesPerHour). x .0) is in
       rw empty (less-need (needAt written step) lost ts had m small (rw (← at) smaller))
 
   -- the loop opens at the last period that may be tried
   module _ {tries : Tries} (told : tries ≡ triesHeld spans i step) where
-    pub down-starts : (had : PagesPerHour) → Down spans runs rates i n step written had had (tries .last)
+    pub down-starts : (had : PagesPerHour) → Down spans pages rates i n step written had had (tries .last)
     down-starts had = rw told (record { multiple = mul-mod-left _ _; below = div-mul-le-self _ _; is = opens })
       where
-        opens : (weights : List ℕ) (j : Job) (js : List Job) (lost : ℕ) (ts : List Seconds) → Held spans runs rates weights i n (j ∷ js) →
+        opens : (stiffnesses : List ℕ) (j : Job) (js : List Job) (lost : ℕ) (ts : List Seconds) → Held spans pages rates stiffnesses i n (j ∷ js) →
             walkDownFrom lessNeed j js (node step written lost ts) (triesHeld spans i step .last) (leastIn had) ≡ walkDown lessNeed (j ∷ js) (node step written lost ts) (leastIn had)
-        opens weights j js lost ts h = rw (h .jobs .0 .longest) (sym (down-opens lessNeed j js (node step written lost ts) (leastIn had)))
+        opens stiffnesses j js lost ts h = rw (h .jobs .0 .longest) (sym (down-opens lessNeed j js (node step written lost ts) (leastIn had)))
 
     -- and ends below the first
-    pub down-done : i < n → {had now : PagesPerHour} {t : Seconds} → Down spans runs rates i n step written had now t → t .0 < tries .first .0 → Lessens spans runs rates i n step written had now
-    down-done less {had} {now} {t} d past weights js lost ts h =
+    pub down-done : i < n → {had now : PagesPerHour} {t : Seconds} → Down spans pages rates i n step written had now t → t .0 < tries .first .0 → Lessens spans pages rates i n step written had now
+    down-done less {had} {now} {t} d past stiffnesses js lost ts h =
         let o = held-open js less h in
         let p = node step written lost ts in
-        let k : Held spans runs rates weights i n (o .job ∷ o .rest) = subst (Held spans runs rates weights i n) (o .is) h in
+        let k : Held spans pages rates stiffnesses i n (o .job ∷ o .rest) = subst (Held spans pages rates stiffnesses i n) (o .is) h in
         rw (o .is)
-        (sym (down-ends lessNeed (o .job) (o .rest) p t (leastIn now) (r .ready .from) (rw (told, o .holds .shortest) at past)) ∙ d .is weights (o .job) (o .rest) lost ts k)
+        (sym (down-ends lessNeed (o .job) (o .rest) p t (leastIn now) (r .ready .from) (rw (told, o .holds .shortest) at past)) ∙ d .is stiffnesses (o .job) (o .rest) lost ts k)
 
 -- A turn of the loop: what stands before it, and a period that may be tried.
-pub record DownTurn (spans runs rates : List ℕ) (i n : ℕ) (step : Seconds) (written : ℕ) (had now : PagesPerHour) (t : Seconds) : Type 0 where
-  pub ready : ReadyForNeed spans runs rates i n step written
+pub record DownTurn (spans pages rates : List ℕ) (i n : ℕ) (step : Seconds) (written : ℕ) (had now : PagesPerHour) (t : Seconds) : Type 0 where
+  pub ready : ReadyForNeed spans pages rates i n step written
   pub less : i < n
-  pub down : Down spans runs rates i n step written had now t
+  pub down : Down spans pages rates i n step written had now t
   pub from : triesHeld spans i step .first .0 ≤ t .0
 
-module _ {spans runs rates : List ℕ} {i n : ℕ} {step : Seconds} {written : ℕ} {had now : PagesPerHour} {t : Seconds} (d : DownTurn spans runs rates i n step written had now t) where
+module _ {spans pages rates : List ℕ} {i n : ℕ} {step : Seconds} {written : ℕ} {had now : PagesPerHour} {t : Seconds} (d : DownTurn spans pages rates i n step written had now t) where
   above : getD spans i 0 ≤ t .0
   above = le-trans (round-up-above (getD spans i 0) (d .ready .ready .from)) (d .from)
 
@@ -126,14 +126,14 @@ module _ {spans runs rates : List ℕ} {i n : ℕ} {step : Seconds} {written : �
       multiple-above (step .0) (t .0) (omega arith) (d .down .multiple)
 
   -- the node below this period
-  pub down-next : ReadyForNeed spans runs rates (i + 1) n t (carried written step t (getD runs i 0))
-  down-next = record { weights = d .ready .weights; ready = next-ready (d .ready .ready) (d .less) t (d .down .multiple) above (d .down .below) zero-le }
+  pub down-next : ReadyForNeed spans pages rates (i + 1) n t (carried written step t (getD pages i 0))
+  down-next = record { stiffnesses = d .ready .stiffnesses; ready = next-ready (d .ready .ready) (d .less) t (d .down .multiple) above (d .down .below) zero-le }
 
-  pub down-cut : ReadyForCut spans rates (i + 1) n t (carried written step t (getD runs i 0))
-  down-cut = record { runs = runs; weights = down-next .weights; ready = down-next .ready }
+  pub down-cut : ReadyForCut spans rates (i + 1) n t (carried written step t (getD pages i 0))
+  down-cut = record { pages = pages; stiffnesses = down-next .stiffnesses; ready = down-next .ready }
 
   -- one turn: what the walk below this period makes of what is had
-  pub down-turn : (m : PagesPerHour) → Lessens spans runs rates (i + 1) n t (carried written step t (getD runs i 0)) now m → Down spans runs rates i n step written had m (seconds (t .0 - step .0))
+  pub down-turn : (m : PagesPerHour) → Lessens spans pages rates (i + 1) n t (carried written step t (getD pages i 0)) now m → Down spans pages rates i n step written had m (seconds (t .0 - step .0))
   down-turn m lessens =
       let below = d .down .below in
       record { multiple = multiple; below = omega arith; is = turned }
@@ -148,16 +148,16 @@ module _ {spans runs rates : List ℕ} {i n : ℕ} {step : Seconds} {written : �
           let e : t .0 - step .0 ≡ (t .0 / step .0 - 1) * step .0 = omega arith in
           rw e (mul-mod-left _ _)
 
-      turned : (weights : List ℕ) (j : Job) (js : List Job) (lost : ℕ) (ts : List Seconds) → Held spans runs rates weights i n (j ∷ js) →
+      turned : (stiffnesses : List ℕ) (j : Job) (js : List Job) (lost : ℕ) (ts : List Seconds) → Held spans pages rates stiffnesses i n (j ∷ js) →
           walkDownFrom lessNeed j js (node step written lost ts) (seconds (t .0 - step .0)) (leastIn m) ≡ walkDown lessNeed (j ∷ js) (node step written lost ts) (leastIn had)
-      turned weights j js lost ts h =
+      turned stiffnesses j js lost ts h =
           let p = node step written lost ts in
-          let after = lessens weights js (lost + jobLoss j t) (ts ++ (t ∷ [])) (held-next j js h) in
+          let after = lessens stiffnesses js (lost + jobLoss j t) (ts ++ (t ∷ [])) (held-next j js h) in
           let own : walkDown lessNeed js (next j p t) (leastIn now) ≡ leastIn m = sym (rw (h .jobs .0 .for-need) at after) in
           ap (walkDownFrom lessNeed j js p (seconds (t .0 - step .0))) (sym own)
           ∙ sym (down-takes lessNeed j js p t (leastIn now) (d .ready .ready .from) down-room (rw (h .jobs .0 .shortest) at (d .from)))
-          ∙ d .down .is weights j js lost ts h
+          ∙ d .down .is stiffnesses j js lost ts h
 
   -- a walk that would leave what is had is not made
-  pub down-skip : LessensNothing spans rates (i + 1) n t (carried written step t (getD runs i 0)) now → Down spans runs rates i n step written had now (seconds (t .0 - step .0))
-  down-skip nothing = down-turn now (λ weights js lost ts h. sym (nothing runs weights js lost ts h))
+  pub down-skip : LessensNothing spans rates (i + 1) n t (carried written step t (getD pages i 0)) now → Down spans pages rates i n step written had now (seconds (t .0 - step .0))
+  down-skip nothing = down-turn now (λ stiffnesses js lost ts h. sym (nothing pages stiffnesses js lost ts h))

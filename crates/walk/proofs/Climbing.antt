@@ -48,58 +48,58 @@ multiple-more : (t p : ℕ) → t % p ≡ 0 → (t + p) % p ≡ 0
 multiple-more t p e = add-mod-right t p ∙ e
 
 -- Before each turn: t is the period whose turn it is, and the walk from it up, begun with what is had, ends as the whole walk does; no completion of an earlier one would change what is had.
-pub record Up {A : Type 0} (f : ℕ → ℕ → List Seconds → A → A) (spans runs rates weights : List ℕ) (i n : ℕ) (step : Seconds) (written lost : ℕ) (ps₀ : List ℕ) (acc₀ : A) (ps : List ℕ) (acc : A) (t : Seconds) : Type 0 where
+pub record Up {A : Type 0} (f : ℕ → ℕ → List Seconds → A → A) (spans pages rates stiffnesses : List ℕ) (i n : ℕ) (step : Seconds) (written lost : ℕ) (ps₀ : List ℕ) (acc₀ : A) (ps : List ℕ) (acc : A) (t : Seconds) : Type 0 where
   pub before : take i ps ≡ take i ps₀
   pub multiple : t .0 % step .0 ≡ 0
   pub above : getD spans i 0 ≤ t .0
-  pub is : (j : Job) (js : List Job) → Held spans runs rates weights i n (j ∷ js) →
+  pub is : (j : Job) (js : List Job) → Held spans pages rates stiffnesses i n (j ∷ js) →
       walkFrom f j js (node step written lost (periodsIn i ps₀)) t acc ≡ walk f (j ∷ js) (node step written lost (periodsIn i ps₀)) acc₀
-  pub settled : (j : Job) (js : List Job) → Held spans runs rates weights i n (j ∷ js) → SettledTo f j js (node step written lost (periodsIn i ps₀)) (t .0) acc
+  pub settled : (j : Job) (js : List Job) → Held spans pages rates stiffnesses i n (j ∷ js) → SettledTo f j js (node step written lost (periodsIn i ps₀)) (t .0) acc
 
-module _ {spans runs rates weights : List ℕ} {i n : ℕ} {step : Seconds} {written lost : ℕ} (r : Ready spans runs rates weights i n step written lost) {A : Type 0} {f : ℕ → ℕ → List Seconds → A → A} where
+module _ {spans pages rates stiffnesses : List ℕ} {i n : ℕ} {step : Seconds} {written lost : ℕ} (r : Ready spans pages rates stiffnesses i n step written lost) {A : Type 0} {f : ℕ → ℕ → List Seconds → A → A} where
   -- the last job has its period: one plan
-  pub up-leaf : {ps : List ℕ} {acc acc′ : A} → i ≡ n → acc′ ≡ f (needAt written step) lost (periodsIn n ps) acc → Walked f spans runs rates weights i n step written lost ps ps acc acc′
+  pub up-leaf : {ps : List ℕ} {acc acc′ : A} → i ≡ n → acc′ ≡ f (needAt written step) lost (periodsIn n ps) acc → Walked f spans pages rates stiffnesses i n step written lost ps ps acc acc′
   unfolding needAt walkBy
   up-leaf {ps} {acc} {acc′} e o = record { before = refl; is = one }
     where
-      one : (js : List Job) → Held spans runs rates weights i n js → acc′ ≡ walk f js (node step written lost (periodsIn i ps)) acc
+      one : (js : List Job) → Held spans pages rates stiffnesses i n js → acc′ ≡ walk f js (node step written lost (periodsIn i ps)) acc
       one js h =
-          let none : js ≡ [] = held-none js (subst (λ (x : ℕ). Held spans runs rates weights x n js) e h) in
+          let none : js ≡ [] = held-none js (subst (λ (x : ℕ). Held spans pages rates stiffnesses x n js) e h) in
           rw (none, e) o
 
   -- the loop opens at the first period that may be tried
   module _ {tries : Tries} (told : tries ≡ triesHeld spans i step) where
-    pub up-starts : {ps : List ℕ} {acc : A} → Up f spans runs rates weights i n step written lost ps acc ps acc (tries .first)
+    pub up-starts : {ps : List ℕ} {acc : A} → Up f spans pages rates stiffnesses i n step written lost ps acc ps acc (tries .first)
     up-starts {ps} {acc} = rw told (record { before = refl; multiple = mul-mod-left _ _; above = round-up-above (getD spans i 0) (r .from); is = opens; settled = none })
       where
-        opens : (j : Job) (js : List Job) → Held spans runs rates weights i n (j ∷ js) →
+        opens : (j : Job) (js : List Job) → Held spans pages rates stiffnesses i n (j ∷ js) →
             walkFrom f j js (node step written lost (periodsIn i ps)) (triesHeld spans i step .first) acc ≡ walk f (j ∷ js) (node step written lost (periodsIn i ps)) acc
         opens j js h = rw (h .jobs .0 .shortest) (sym (loop-opens f j js (node step written lost (periodsIn i ps)) acc))
 
-        none : (j : Job) (js : List Job) → Held spans runs rates weights i n (j ∷ js) → SettledTo f j js (node step written lost (periodsIn i ps)) (triesHeld spans i step .first .0) acc
+        none : (j : Job) (js : List Job) → Held spans pages rates stiffnesses i n (j ∷ js) → SettledTo f j js (node step written lost (periodsIn i ps)) (triesHeld spans i step .first .0) acc
         none j js h = rw (h .jobs .0 .shortest) (settled-first f j js (node step written lost (periodsIn i ps)) acc (r .from))
 
     -- and ends past the last
-    pub up-done : i < n → {ps₀ ps : List ℕ} {acc₀ acc : A} {t : Seconds} → Up f spans runs rates weights i n step written lost ps₀ acc₀ ps acc t → tries .last .0 < t .0 → Walked f spans runs rates weights i n step written lost ps₀ ps acc₀ acc
+    pub up-done : i < n → {ps₀ ps : List ℕ} {acc₀ acc : A} {t : Seconds} → Up f spans pages rates stiffnesses i n step written lost ps₀ acc₀ ps acc t → tries .last .0 < t .0 → Walked f spans pages rates stiffnesses i n step written lost ps₀ ps acc₀ acc
     up-done less {ps₀} {ps} {acc₀} {acc} {t} u past = record { before = u .before; is = done }
       where
-        done : (js : List Job) → Held spans runs rates weights i n js → acc ≡ walk f js (node step written lost (periodsIn i ps₀)) acc₀
+        done : (js : List Job) → Held spans pages rates stiffnesses i n js → acc ≡ walk f js (node step written lost (periodsIn i ps₀)) acc₀
         done js h =
             let o = held-open js less h in
             let p = node step written lost (periodsIn i ps₀) in
-            let k : Held spans runs rates weights i n (o .job ∷ o .rest) = subst (Held spans runs rates weights i n) (o .is) h in
+            let k : Held spans pages rates stiffnesses i n (o .job ∷ o .rest) = subst (Held spans pages rates stiffnesses i n) (o .is) h in
             rw (o .is) (sym (loop-ends f (o .job) (o .rest) p t acc (r .from) (rw (told, o .holds .longest) at past)) ∙ u .is (o .job) (o .rest) k)
 
 -- A turn of the loop: what stands before it, and a period that may be tried; the update absorbs what it visits.
-pub record Turn {A : Type 0} (Good : A → Type 0) (f : ℕ → ℕ → List Seconds → A → A) (spans runs rates weights : List ℕ) (i n : ℕ) (step : Seconds) (written lost : ℕ) (ps₀ : List ℕ) (acc₀ : A) (ps : List ℕ) (acc : A) (t : Seconds) : Type 0 where
-  pub ready : Ready spans runs rates weights i n step written lost
+pub record Turn {A : Type 0} (Good : A → Type 0) (f : ℕ → ℕ → List Seconds → A → A) (spans pages rates stiffnesses : List ℕ) (i n : ℕ) (step : Seconds) (written lost : ℕ) (ps₀ : List ℕ) (acc₀ : A) (ps : List ℕ) (acc : A) (t : Seconds) : Type 0 where
+  pub ready : Ready spans pages rates stiffnesses i n step written lost
   pub less : i < n
-  pub up : Up f spans runs rates weights i n step written lost ps₀ acc₀ ps acc t
+  pub up : Up f spans pages rates stiffnesses i n step written lost ps₀ acc₀ ps acc t
   pub on : t .0 ≤ triesHeld spans i step .last .0
   pub absorbs : Absorbs Good f
   pub good : Good acc
 
-module _ {A : Type 0} {Good : A → Type 0} {f : ℕ → ℕ → List Seconds → A → A} {spans runs rates weights : List ℕ} {i n : ℕ} {step : Seconds} {written lost : ℕ} {ps₀ ps : List ℕ} {acc₀ acc : A} {t : Seconds} (u : Turn Good f spans runs rates weights i n step written lost ps₀ acc₀ ps acc t) where
+module _ {A : Type 0} {Good : A → Type 0} {f : ℕ → ℕ → List Seconds → A → A} {spans pages rates stiffnesses : List ℕ} {i n : ℕ} {step : Seconds} {written lost : ℕ} {ps₀ ps : List ℕ} {acc₀ acc : A} {t : Seconds} (u : Turn Good f spans pages rates stiffnesses i n step written lost ps₀ acc₀ ps acc t) where
   pub up-place : i < 8
   up-place = omega (arith, u .less, u .ready .held .most)
 
@@ -111,13 +111,13 @@ module _ {A : Type 0} {Good : A → Type 0} {f : ℕ → ℕ → List Seconds �
   up-to = le-trans below-longest (ready-longest (u .ready) (u .less))
 
   -- the loss so far with this job's
-  pub up-loss-fits : LossHeldFits runs rates weights i t
+  pub up-loss-fits : LossHeldFits pages rates stiffnesses i t
   up-loss-fits = let o = held-open (u .ready .js) (u .less) (u .ready .held) in job-loss-fits (o .holds) t (rw (o .holds .shortest) at (u .up .above))
 
-  loss-here : (j : Job) {js : List Job} → HoldsJob spans runs rates weights i j js → lossHeld runs rates weights i t ≡ jobLoss j t
+  loss-here : (j : Job) {js : List Job} → HoldsJob spans pages rates stiffnesses i j js → lossHeld pages rates stiffnesses i t ≡ jobLoss j t
   loss-here j h = job-loss-is h t (rw (h .shortest) at (u .up .above))
 
-  pub up-later : Later spans runs rates weights (i + 1) n t
+  pub up-later : Later spans pages rates stiffnesses (i + 1) n t
   up-later =
       let o = held-open (u .ready .js) (u .less) (u .ready .held) in
       let v = o .holds .valid in
@@ -136,18 +136,18 @@ module _ {A : Type 0} {Good : A → Type 0} {f : ℕ → ℕ → List Seconds �
       let s = o .holds .shortest in
       rw (mul-div-cancel (roundUp (getD spans i 0) (step .0)) (u .ready .from)) (round-up-some (omega arith) (u .ready .from))
 
-  pub up-cut : ReadyForCut spans rates (i + 1) n t (carried written step t (getD runs i 0))
-  up-cut = record { runs = runs; weights = weights; ready = next-ready (u .ready) (u .less) t (u .up .multiple) (u .up .above) below-longest zero-le }
+  pub up-cut : ReadyForCut spans rates (i + 1) n t (carried written step t (getD pages i 0))
+  up-cut = record { pages = pages; stiffnesses = stiffnesses; ready = next-ready (u .ready) (u .less) t (u .up .multiple) (u .up .above) below-longest zero-le }
 
   -- one turn, where the walk below this period takes what is had to acc′
   turn : {ps′ : List ℕ} {acc′ : A} → take i ps′ ≡ take i ps₀ →
-      ((j : Job) (js : List Job) → Held spans runs rates weights i n (j ∷ js) → walk f js (next j (node step written lost (periodsIn i ps₀)) t) acc ≡ acc′) →
-      Up f spans runs rates weights i n step written lost ps₀ acc₀ ps′ acc′ (seconds (t .0 + step .0))
+      ((j : Job) (js : List Job) → Held spans pages rates stiffnesses i n (j ∷ js) → walk f js (next j (node step written lost (periodsIn i ps₀)) t) acc ≡ acc′) →
+      Up f spans pages rates stiffnesses i n step written lost ps₀ acc₀ ps′ acc′ (seconds (t .0 + step .0))
   turn {ps′} {acc′} same below =
       let a = u .up .above in
       record { before = same; multiple = multiple-more (t .0) (step .0) (u .up .multiple); above = omega arith; is = turned; settled = more }
     where
-      turned : (j : Job) (js : List Job) → Held spans runs rates weights i n (j ∷ js) →
+      turned : (j : Job) (js : List Job) → Held spans pages rates stiffnesses i n (j ∷ js) →
           walkFrom f j js (node step written lost (periodsIn i ps₀)) (seconds (t .0 + step .0)) acc′ ≡ walk f (j ∷ js) (node step written lost (periodsIn i ps₀)) acc₀
       turned j js h =
           let p = node step written lost (periodsIn i ps₀) in
@@ -155,24 +155,24 @@ module _ {A : Type 0} {Good : A → Type 0} {f : ℕ → ℕ → List Seconds �
           ∙ sym (loop-takes f j js p t acc (u .ready .from) (rw (h .jobs .0 .longest) at (u .on)))
           ∙ u .up .is j js h
 
-      more : (j : Job) (js : List Job) → Held spans runs rates weights i n (j ∷ js) → SettledTo f j js (node step written lost (periodsIn i ps₀)) (t .0 + step .0) acc′
+      more : (j : Job) (js : List Job) → Held spans pages rates stiffnesses i n (j ∷ js) → SettledTo f j js (node step written lost (periodsIn i ps₀)) (t .0 + step .0) acc′
       more j js h =
           let p = node step written lost (periodsIn i ps₀) in
           subst (SettledTo f j js p (t .0 + step .0)) (below j js h)
           (settled-more f j js p acc (u .ready .from) (held-valid js (held-next j js h)) (t .0) (up-later .from) (u .up .multiple) (u .up .settled j js h) (u .absorbs) (u .good) multiples-lists)
 
   -- without pages, and at a multiple of an earlier period: nothing here that was not had there
-  pub up-pass : Repeats runs i step (triesHeld spans i step .first) t → Up f spans runs rates weights i n step written lost ps₀ acc₀ ps acc (seconds (t .0 + step .0))
+  pub up-pass : Repeats pages i step (triesHeld spans i step .first) t → Up f spans pages rates stiffnesses i n step written lost ps₀ acc₀ ps acc (seconds (t .0 + step .0))
   up-pass repeats = turn (u .up .before) below
     where
-      below : (j : Job) (js : List Job) → Held spans runs rates weights i n (j ∷ js) → walk f js (next j (node step written lost (periodsIn i ps₀)) t) acc ≡ acc
+      below : (j : Job) (js : List Job) → Held spans pages rates stiffnesses i n (j ∷ js) → walk f js (next j (node step written lost (periodsIn i ps₀)) t) acc ≡ acc
       below j js h =
           let idle : Pageless j = record { for-need = sym (h .jobs .0 .for-need) ∙ repeats .for-need; for-loss = sym (h .jobs .0 .for-loss) ∙ repeats .for-loss } in
           let passed : PassedOver (t .0 / step .0) (roundUp (getD spans i 0) (step .0)) = rw (mul-div-cancel (roundUp (getD spans i 0) (step .0)) (u .ready .from)) at (repeats .passed) in
           settled-passes f j js (node step written lost (periodsIn i ps₀)) acc (u .ready .from) (held-valid js (held-next j js h)) (t .0) (up-later .from) (u .up .multiple) (u .up .settled j js h) idle (rw (h .jobs .0 .shortest) at passed) multiples-lists
 
   -- with this job the loss is `here`
-  module _ {here : ℕ} (own : here ≡ lost + lossHeld runs rates weights i t) where
+  module _ {here : ℕ} (own : here ≡ lost + lossHeld pages rates stiffnesses i t) where
     pub up-lost : here ≤ mostLoss * (i + 1)
     up-lost =
         let o = held-open (u .ready .js) (u .less) (u .ready .held) in
@@ -181,10 +181,10 @@ module _ {A : Type 0} {Good : A → Type 0} {f : ℕ → ℕ → List Seconds �
         let l : lost ≤ mostLoss * i = u .ready .bounded .lost-to in
         omega arith
 
-    pub up-next : Ready spans runs rates weights (i + 1) n t (carried written step t (getD runs i 0)) here
+    pub up-next : Ready spans pages rates stiffnesses (i + 1) n t (carried written step t (getD pages i 0)) here
     up-next = next-ready (u .ready) (u .less) t (u .up .multiple) (u .up .above) below-longest up-lost
 
-    module _ {low : ℕ} (floor : IsLossFloor spans runs rates weights (i + 1) n t low) where
+    module _ {low : ℕ} (floor : IsLossFloor spans pages rates stiffnesses (i + 1) n t low) where
       pub up-floor : here + low ≤ mostLoss * 8
       up-floor =
           let l = up-later in
@@ -196,33 +196,33 @@ module _ {A : Type 0} {Good : A → Type 0} {f : ℕ → ℕ → List Seconds �
           omega arith
 
       -- what is had stands against the loss floor: nothing from here on changes it
-      pub up-left : Keeps f acc 0 (here + low) → Walked f spans runs rates weights i n step written lost ps₀ ps acc₀ acc
+      pub up-left : Keeps f acc 0 (here + low) → Walked f spans pages rates stiffnesses i n step written lost ps₀ ps acc₀ acc
       up-left keeps = record { before = u .up .before; is = left }
         where
-          left : (js : List Job) → Held spans runs rates weights i n js → acc ≡ walk f js (node step written lost (periodsIn i ps₀)) acc₀
+          left : (js : List Job) → Held spans pages rates stiffnesses i n js → acc ≡ walk f js (node step written lost (periodsIn i ps₀)) acc₀
           left js h =
               let o = held-open js (u .less) h in
               let p = node step written lost (periodsIn i ps₀) in
-              let k : Held spans runs rates weights i n (o .job ∷ o .rest) = subst (Held spans runs rates weights i n) (o .is) h in
+              let k : Held spans pages rates stiffnesses i n (o .job ∷ o .rest) = subst (Held spans pages rates stiffnesses i n) (o .is) h in
               let e = loss-here (o .job) (o .holds) in
               let g = floor (o .rest) (o .later) in
               let pos = up-later .from in
               let stays : walkFrom f (o .job) (o .rest) p t acc ≡ acc = loop-left f (o .job) (o .rest) p t (here + low) acc (held-valid (o .rest) (o .later)) pos (omega arith) keeps in
               rw (o .is) (sym stays ∙ u .up .is (o .job) (o .rest) k)
 
-      pub up-skip : ChangesNothing f spans rates (i + 1) n t (carried written step t (getD runs i 0)) (here + low) acc →
-          Up f spans runs rates weights i n step written lost ps₀ acc₀ ps acc (seconds (t .0 + step .0))
+      pub up-skip : ChangesNothing f spans rates (i + 1) n t (carried written step t (getD pages i 0)) (here + low) acc →
+          Up f spans pages rates stiffnesses i n step written lost ps₀ acc₀ ps acc (seconds (t .0 + step .0))
       up-skip nothing = turn (u .up .before) below
         where
-          below : (j : Job) (js : List Job) → Held spans runs rates weights i n (j ∷ js) → walk f js (next j (node step written lost (periodsIn i ps₀)) t) acc ≡ acc
+          below : (j : Job) (js : List Job) → Held spans pages rates stiffnesses i n (j ∷ js) → walk f js (next j (node step written lost (periodsIn i ps₀)) t) acc ≡ acc
           below j js h =
               let e = loss-here j (h .jobs .0) in
               let g = floor js (held-next j js h) in
-              let stays = nothing runs weights js (lost + jobLoss j t) (periodsIn i ps₀ ++ (t ∷ [])) (held-next j js h) (omega arith) in
+              let stays = nothing pages stiffnesses js (lost + jobLoss j t) (periodsIn i ps₀ ++ (t ∷ [])) (held-next j js h) (omega arith) in
               rw (h .jobs .0 .for-need) at stays
 
-    pub up-turn : {ps′ : List ℕ} {acc′ : A} → length ps ≡ 8 → Walked f spans runs rates weights (i + 1) n t (carried written step t (getD runs i 0)) here (set ps i (t .0)) ps′ acc acc′ →
-        Up f spans runs rates weights i n step written lost ps₀ acc₀ ps′ acc′ (seconds (t .0 + step .0))
+    pub up-turn : {ps′ : List ℕ} {acc′ : A} → length ps ≡ 8 → Walked f spans pages rates stiffnesses (i + 1) n t (carried written step t (getD pages i 0)) here (set ps i (t .0)) ps′ acc acc′ →
+        Up f spans pages rates stiffnesses i n step written lost ps₀ acc₀ ps′ acc′ (seconds (t .0 + step .0))
     up-turn {ps′} {acc′} eight w = turn same below
       where
         place : i < length ps
@@ -231,7 +231,7 @@ module _ {A : Type 0} {Good : A → Type 0} {f : ℕ → ℕ → List Seconds �
         same : take i ps′ ≡ take i ps₀
         same = shorter i ps′ (set ps i (t .0)) (rw (add-one i) at (w .before)) ∙ take-set-le i ps i (t .0) (le-refl i) ∙ u .up .before
 
-        below : (j : Job) (js : List Job) → Held spans runs rates weights i n (j ∷ js) → walk f js (next j (node step written lost (periodsIn i ps₀)) t) acc ≡ acc′
+        below : (j : Job) (js : List Job) → Held spans pages rates stiffnesses i n (j ∷ js) → walk f js (next j (node step written lost (periodsIn i ps₀)) t) acc ≡ acc′
         below j js h =
             let e : here ≡ lost + jobLoss j t = own ∙ ap (λ (x : ℕ). lost + x) (loss-here j (h .jobs .0)) in
             let ts : periodsIn (i + 1) (set ps i (t .0)) ≡ periodsIn i ps₀ ++ (t ∷ []) = periods-more i (t .0) ps place ∙ ap (λ (l : List ℕ). map seconds l ++ (t ∷ [])) (u .up .before) in

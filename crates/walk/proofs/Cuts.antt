@@ -21,15 +21,15 @@ use Rattle.walk.proofs.Walk.{Keeps, walk-cut, walk-out-of-reach}
 use Rattle.walk.proofs.Bounds.{least-needs-bound}
 use Rattle.walk.proofs.Held.{held-open, held-at, held-valid}
 
-module _ {spans runs rates weights : List ℕ} {i n : ℕ} where
+module _ {spans pages rates stiffnesses : List ℕ} {i n : ℕ} where
   -- the need floor is one of the jobs' own
-  pub need-floor-is : (js : List Job) (t : Seconds) (written : ℕ) → Held spans runs rates weights i n js → needAt written t + getD rates (8 + i) 0 ≡ needFloor written t js
+  pub need-floor-is : (js : List Job) (t : Seconds) (written : ℕ) → Held spans pages rates stiffnesses i n js → needAt written t + getD rates (8 + i) 0 ≡ needFloor written t js
   unfolding needAt needFloor
   need-floor-is js t written h = ap (λ (x : ℕ). roundUp (3600 * written) (t .0) + x) (h .needs)
 
   -- an interval of a later job that holds no multiple of t
   pub unreached : {order : Seconds → Job → List Seconds} → ListsAllowed order → {A : Type 0} (f : ℕ → ℕ → List Seconds → A → A) (acc : A) (js : List Job) (p : Node) →
-      1 ≤ p .before .0 → Held spans runs rates weights i n js → Unreached spans i n (p .before) → walkBy order f js p acc ≡ acc
+      1 ≤ p .before .0 → Held spans pages rates stiffnesses i n js → Unreached spans i n (p .before) → walkBy order f js p acc ≡ acc
   unreached law f acc js p pos h u =
       let a = held-at (u .0) js (u .1) (u .2) h in
       let far = u .3 in
@@ -37,7 +37,7 @@ module _ {spans runs rates weights : List ℕ} {i n : ℕ} where
       let hi : getD spans (8 + u .0) 0 / p .before .0 * p .before .0 ≡ a .job .hi .0 / p .before .0 * p .before .0 = ap (λ (x : ℕ). x / p .before .0 * p .before .0) (a .holds .longest) in
       walk-out-of-reach law f acc js p (held-valid js h) pos (a .member) (omega arith)
 
-  module _ {t : Seconds} {written lost : ℕ} (r : Ready spans runs rates weights i n t written lost) where
+  module _ {t : Seconds} {written lost : ℕ} (r : Ready spans pages rates stiffnesses i n t written lost) where
     place-to : i ≤ 8
     place-to = let c = r .held .count in let m = r .held .most in omega arith
 
@@ -59,7 +59,7 @@ module _ {spans runs rates weights : List ℕ} {i n : ℕ} where
         let e = o .holds .shortest in
         omega arith
 
-    pub ready-own : i < n → getD runs i 0 ≤ mostPages
+    pub ready-own : i < n → getD pages i 0 ≤ mostPages
     ready-own less =
         let o = held-open (r .js) less (r .held) in
         let e = o .holds .for-need in
@@ -94,10 +94,10 @@ module _ {spans runs rates weights : List ℕ} {i n : ℕ} where
 
     -- one more job, at a multiple of the period before
     module _ (less : i < n) (u : Seconds) (multiple : u .0 % t .0 ≡ 0) (above : getD spans i 0 ≤ u .0) (below : u .0 ≤ getD spans (8 + i) 0) where
-      pub next-allowed : (j : Job) {js : List Job} → HoldsJob spans runs rates weights i j js → Allowed j t u
+      pub next-allowed : (j : Job) {js : List Job} → HoldsJob spans pages rates stiffnesses i j js → Allowed j t u
       next-allowed j h = record { above = rw (h .shortest) at above; below = rw (h .longest) at below; multiple = multiple }
 
-      pub next-ready : {lost′ : ℕ} → lost′ ≤ mostLoss * (i + 1) → Ready spans runs rates weights (i + 1) n u (carried written t u (getD runs i 0)) lost′
+      pub next-ready : {lost′ : ℕ} → lost′ ≤ mostLoss * (i + 1) → Ready spans pages rates stiffnesses (i + 1) n u (carried written t u (getD pages i 0)) lost′
       next-ready {lost′} lost≤ =
           let o = held-open (r .js) less (r .held) in
           let v = o .holds .valid in
@@ -109,15 +109,15 @@ module _ {spans runs rates weights : List ℕ} {i n : ℕ} where
           record { js = o .rest; held = o .later; from = omega arith; to = omega arith; bounded = record { pages-to = omega arith; lost-to = lost≤ } }
 
 -- where a walk begins
-pub ready-start : {spans runs rates weights : List ℕ} {n : ℕ} {js : List Job} → Held spans runs rates weights 0 n js → Ready spans runs rates weights 0 n (seconds 1) 0 0
+pub ready-start : {spans pages rates stiffnesses : List ℕ} {n : ℕ} {js : List Job} → Held spans pages rates stiffnesses 0 n js → Ready spans pages rates stiffnesses 0 n (seconds 1) 0 0
 ready-start {js = js} held = record { js = js; held = held; from = le-refl 1; to = omega arith; bounded = start-bounded }
 
 -- the cuts of a rising walk: what is had stands against the floors, or a later interval holds no multiple
 module _ {A : Type 0} (f : ℕ → ℕ → List Seconds → A → A) (acc : A) {spans rates : List ℕ} {i n : ℕ} {t : Seconds} {written : ℕ} (r : ReadyForCut spans rates i n t written) (floor : ℕ) where
   pub floors-cut : (k l : ℕ) → k ≤ needAt written t + getD rates (8 + i) 0 → l ≤ floor → Keeps f acc k l → ChangesNothing f spans rates i n t written floor acc
-  floors-cut k l k≤ l≤ keeps runs weights js lost ts h e =
+  floors-cut k l k≤ l≤ keeps pages stiffnesses js lost ts h e =
       let is = need-floor-is js t written h in
       walk-cut multiples-lists f acc js (node t written lost ts) (held-valid js h) (r .ready .from) k l (omega arith) (omega arith) keeps
 
   pub reach-cut : Unreached spans i n t → ChangesNothing f spans rates i n t written floor acc
-  reach-cut u runs weights js lost ts h e = unreached multiples-lists f acc js (node t written lost ts) (r .ready .from) h u
+  reach-cut u pages stiffnesses js lost ts h e = unreached multiples-lists f acc js (node t written lost ts) (r .ready .from) h u

@@ -140,8 +140,8 @@ module _ {p : Profile} (v : Valid p) where
           record { size = length-set (set xs (k - 1) (fast .0)) (8 + (k - 1)) (slow .0 + needs) ∙ length-set xs (k - 1) (fast .0) ∙ size; fastest = b .0; needs = b .1 }
 
   -- all four arrays together hold the jobs
-  module _ {spans runs rates weights : List ℕ} (s : SecondsFrom p 0 spans) (g : PagesFrom p 0 runs) (r : RatesFrom p 0 rates) (w : StiffnessesFrom p 0 weights) where
-    holds-from : (m i : ℕ) → i + m ≡ p .n → HoldsJobs spans runs rates weights i (entries noJob (p .jobs) i m)
+  module _ {spans pages rates stiffnesses : List ℕ} (s : SecondsFrom p 0 spans) (g : PagesFrom p 0 pages) (r : RatesFrom p 0 rates) (w : StiffnessesFrom p 0 stiffnesses) where
+    holds-from : (m i : ℕ) → i + m ≡ p .n → HoldsJobs spans pages rates stiffnesses i (entries noJob (p .jobs) i m)
     unfolding entries
     holds-from zero i e = tt
     holds-from (suc m) i e = (here, holds-from m (i + 1) (omega arith))
@@ -149,7 +149,7 @@ module _ {p : Profile} (v : Valid p) where
         rest : p .n - (i + 1) ≡ m
         rest = omega arith
 
-        here : HoldsJob spans runs rates weights i (jobAt p i) (entries noJob (p .jobs) (i + 1) m)
+        here : HoldsJob spans pages rates stiffnesses i (jobAt p i) (entries noJob (p .jobs) (i + 1) m)
         here =
             let less : i < p .n = omega arith in
             let from : 0 ≤ i = omega arith in
@@ -164,7 +164,7 @@ module _ {p : Profile} (v : Valid p) where
               stiff = w .stiff i from less;
             }
 
-    pub all-held : Held spans runs rates weights 0 (p .n) (jobsOf p)
+    pub all-held : Held spans pages rates stiffnesses 0 (p .n) (jobsOf p)
     all-held =
         let l = entries-length (p .jobs) (p .n) 0 in
         record {

@@ -16,30 +16,30 @@ use Rattle.walk.specs.Steps.{lossHeld, LossHeldFits, Later}
 use Rattle.walk.proofs.Held.{held-open, held-none, held-at, job-loss-fits, job-loss-is}
 
 -- The sum is the floor of the jobs from place k on.
-pub record FloorFrom (spans runs rates weights : List ℕ) (i n : ℕ) (t : Seconds) (floor k : ℕ) : Type 0 where
+pub record FloorFrom (spans pages rates stiffnesses : List ℕ) (i n : ℕ) (t : Seconds) (floor k : ℕ) : Type 0 where
   pub from : i ≤ k
   pub to : k ≤ n
   pub small : floor ≤ mostLoss * (n - k)
-  pub is : (js : List Job) → Held spans runs rates weights k n js → floor ≡ lossFloor js (t .0)
+  pub is : (js : List Job) → Held spans pages rates stiffnesses k n js → floor ≡ lossFloor js (t .0)
 
-module _ {spans runs rates weights : List ℕ} {i n : ℕ} {t : Seconds} (l : Later spans runs rates weights i n t) where
-  pub floor-none : FloorFrom spans runs rates weights i n t 0 n
+module _ {spans pages rates stiffnesses : List ℕ} {i n : ℕ} {t : Seconds} (l : Later spans pages rates stiffnesses i n t) where
+  pub floor-none : FloorFrom spans pages rates stiffnesses i n t 0 n
   unfolding lossFloor
   floor-none =
       let c = l .held .count in
       record { from = omega arith; to = omega arith; small = omega arith; is = λ js h. ap (λ (ks : List Job). lossFloor ks (t .0)) (sym (held-none js h)) }
 
-  module _ {floor k : ℕ} (f : FloorFrom spans runs rates weights i n t floor k) (less : i < k) (u : Seconds) (longer : u .0 ≡ max (getD spans (k - 1) 0) (t .0)) where
-    at-least : (j : Job) {js : List Job} → HoldsJob spans runs rates weights (k - 1) j js → j .lo .0 ≤ u .0
+  module _ {floor k : ℕ} (f : FloorFrom spans pages rates stiffnesses i n t floor k) (less : i < k) (u : Seconds) (longer : u .0 ≡ max (getD spans (k - 1) 0) (t .0)) where
+    at-least : (j : Job) {js : List Job} → HoldsJob spans pages rates stiffnesses (k - 1) j js → j .lo .0 ≤ u .0
     at-least j h = let s = h .shortest in omega arith
 
-    pub floor-fits : LossHeldFits runs rates weights (k - 1) u
+    pub floor-fits : LossHeldFits pages rates stiffnesses (k - 1) u
     floor-fits =
         let to = f .to in
         let a = held-at (k - 1) (l .js) (omega arith) (omega arith) (l .held) in
         job-loss-fits (a .holds) u (at-least (a .job) (a .holds))
 
-    module _ (x : ℕ) (lost : x ≡ lossHeld runs rates weights (k - 1) u) where
+    module _ (x : ℕ) (lost : x ≡ lossHeld pages rates stiffnesses (k - 1) u) where
       one-small : x ≤ mostLoss
       one-small =
           let to = f .to in
@@ -51,18 +51,18 @@ module _ {spans runs rates weights : List ℕ} {i n : ℕ} {t : Seconds} (l : La
       pub sum-fits : x + floor ≤ mostLoss * (n - (k - 1))
       sum-fits = let s = f .small in let to = f .to in let o = one-small in omega arith
 
-      pub floor-more : FloorFrom spans runs rates weights i n t (x + floor) (k - 1)
+      pub floor-more : FloorFrom spans pages rates stiffnesses i n t (x + floor) (k - 1)
       unfolding lossFloor
       floor-more = let to = f .to in record { from = omega arith; to = omega arith; small = sum-fits; is = opened }
         where
           again : k - 1 + 1 ≡ k
           again = omega arith
 
-          opened : (js : List Job) → Held spans runs rates weights (k - 1) n js → x + floor ≡ lossFloor js (t .0)
+          opened : (js : List Job) → Held spans pages rates stiffnesses (k - 1) n js → x + floor ≡ lossFloor js (t .0)
           opened js h =
               let to = f .to in
               let o = held-open js (omega arith) h in
               let is-max : u ≡ seconds (max (o .job .lo .0) (t .0)) = ap seconds (longer ∙ ap (λ (y : ℕ). max y (t .0)) (o .holds .shortest)) in
               let here : x ≡ jobLoss (o .job) (seconds (max (o .job .lo .0) (t .0))) = lost ∙ job-loss-is (o .holds) u (at-least (o .job) (o .holds)) ∙ ap (jobLoss (o .job)) is-max in
-              let rest : floor ≡ lossFloor (o .rest) (t .0) = f .is (o .rest) (subst (λ (y : ℕ). Held spans runs rates weights y n (o .rest)) again (o .later)) in
+              let rest : floor ≡ lossFloor (o .rest) (t .0) = f .is (o .rest) (subst (λ (y : ℕ). Held spans pages rates stiffnesses y n (o .rest)) again (o .later)) in
               ap₂ (λ (a b : ℕ). a + b) here rest ∙ sym (ap (λ (ks : List Job). lossFloor ks (t .0)) (o .is))

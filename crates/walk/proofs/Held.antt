@@ -15,49 +15,49 @@ use Rattle.walk.specs.Steps.{lossHeld, LossHeldFits}
 use Rattle.step.proofs.Fits.{numbers-fit, loss-by-numbers}
 
 -- The job at place i, with the jobs after it.
-pub record Opened (spans runs rates weights : List ℕ) (i n : ℕ) (js : List Job) : Type 0 where
+pub record Opened (spans pages rates stiffnesses : List ℕ) (i n : ℕ) (js : List Job) : Type 0 where
   pub job : Job
   pub rest : List Job
   pub is : js ≡ job ∷ rest
-  pub holds : HoldsJob spans runs rates weights i job rest
-  pub later : Held spans runs rates weights (i + 1) n rest
+  pub holds : HoldsJob spans pages rates stiffnesses i job rest
+  pub later : Held spans pages rates stiffnesses (i + 1) n rest
 
 -- The job at some later place.
-pub record JobAt (spans runs rates weights : List ℕ) (k : ℕ) (js : List Job) : Type 0 where
+pub record JobAt (spans pages rates stiffnesses : List ℕ) (k : ℕ) (js : List Job) : Type 0 where
   pub job : Job
   pub rest : List Job
   pub member : List·Memᴰ job js
-  pub holds : HoldsJob spans runs rates weights k job rest
+  pub holds : HoldsJob spans pages rates stiffnesses k job rest
 
-module _ {spans runs rates weights : List ℕ} where
-  pub held-next : {i n : ℕ} (j : Job) (js : List Job) → Held spans runs rates weights i n (j ∷ js) → Held spans runs rates weights (i + 1) n js
+module _ {spans pages rates stiffnesses : List ℕ} where
+  pub held-next : {i n : ℕ} (j : Job) (js : List Job) → Held spans pages rates stiffnesses i n (j ∷ js) → Held spans pages rates stiffnesses (i + 1) n js
   held-next j js h =
       let c = h .count in
       record { count = omega arith; most = h .most; needs = h .jobs .0 .later; jobs = h .jobs .1 }
 
-  pub held-open : {i n : ℕ} (js : List Job) → i < n → Held spans runs rates weights i n js → Opened spans runs rates weights i n js
+  pub held-open : {i n : ℕ} (js : List Job) → i < n → Held spans pages rates stiffnesses i n js → Opened spans pages rates stiffnesses i n js
   held-open [] less h = let c = h .count in absurd (omega arith)
   held-open (j ∷ js) less h = record { job = j; rest = js; is = refl; holds = h .jobs .0; later = held-next j js h }
 
-  pub held-none : {n : ℕ} (js : List Job) → Held spans runs rates weights n n js → js ≡ []
+  pub held-none : {n : ℕ} (js : List Job) → Held spans pages rates stiffnesses n n js → js ≡ []
   held-none [] h = refl
   held-none (j ∷ js) h = let c = h .count in absurd (omega arith)
 
-  pub held-valid : {i n : ℕ} (js : List Job) → Held spans runs rates weights i n js → ValidJobs js
+  pub held-valid : {i n : ℕ} (js : List Job) → Held spans pages rates stiffnesses i n js → ValidJobs js
   held-valid [] h = tt
   held-valid (j ∷ js) h = (h .jobs .0 .valid, held-valid js (held-next j js h))
 
-  pub held-at : {i n : ℕ} (k : ℕ) (js : List Job) → i ≤ k → k < n → Held spans runs rates weights i n js → JobAt spans runs rates weights k js
+  pub held-at : {i n : ℕ} (k : ℕ) (js : List Job) → i ≤ k → k < n → Held spans pages rates stiffnesses i n js → JobAt spans pages rates stiffnesses k js
   held-at k [] from to h = let c = h .count in absurd (omega arith)
   held-at {i} k (j ∷ js) from to h = go (ℕ-discrete i k) (λ f. held-at k js f to (held-next j js h))
     where
-      go : Dec (i ≡ k) → (i + 1 ≤ k → JobAt spans runs rates weights k js) → JobAt spans runs rates weights k (j ∷ js)
-      go (yes e) ih = record { job = j; rest = js; member = List·Memᴰ·head refl; holds = subst (λ (x : ℕ). HoldsJob spans runs rates weights x j js) e (h .jobs .0) }
+      go : Dec (i ≡ k) → (i + 1 ≤ k → JobAt spans pages rates stiffnesses k js) → JobAt spans pages rates stiffnesses k (j ∷ js)
+      go (yes e) ih = record { job = j; rest = js; member = List·Memᴰ·head refl; holds = subst (λ (x : ℕ). HoldsJob spans pages rates stiffnesses x j js) e (h .jobs .0) }
       go (no d) ih = let r = ih (omega arith) in record { job = r .job; rest = r .rest; member = List·Memᴰ·tail (r .member); holds = r .holds }
 
-  module _ {i : ℕ} {j : Job} {js : List Job} (h : HoldsJob spans runs rates weights i j js) (t : Seconds) (on : j .lo .0 ≤ t .0) where
-    pub job-loss-fits : LossHeldFits runs rates weights i t
+  module _ {i : ℕ} {j : Job} {js : List Job} (h : HoldsJob spans pages rates stiffnesses i j js) (t : Seconds) (on : j .lo .0 ≤ t .0) where
+    pub job-loss-fits : LossHeldFits pages rates stiffnesses i t
     job-loss-fits = rw (h .stiff, h .fastest, h .for-loss) (numbers-fit j t (h .valid) on)
 
-    pub job-loss-is : lossHeld runs rates weights i t ≡ jobLoss j t
+    pub job-loss-is : lossHeld pages rates stiffnesses i t ≡ jobLoss j t
     job-loss-is = rw (h .stiff, h .fastest, h .for-loss) (loss-by-numbers j t)

@@ -1,5 +1,5 @@
--- How a profile's numbers stand in the arrays that the walks are lent: `spans` in seconds, `runs` in pages of a run, `rates` in
--- pages per hour, `weights` for the stiffnesses. Contracts of inner functions cite this, and those of no entry point.
+-- How a profile's numbers stand in the arrays that the walks are lent: `spans` in seconds, `pages` of a run, `rates` in
+-- pages per hour, `stiffnesses`. Contracts of inner functions cite this, and those of no entry point.
 -- Assumes nothing.
 use mathlib.Core.Path.{_≡_}
 use mathlib.Core.List.{List, [], _∷_}
@@ -49,18 +49,18 @@ pub record StiffnessesFrom (p : Profile) (k : ℕ) (xs : List ℕ) : Type 0 wher
   pub size : length xs ≡ 8
   pub stiff : Filled first (λ m. jobAt p m .stiffness) k (p .n) xs
 
-module _ (spans runs rates weights : List ℕ) where
+module _ (spans pages rates stiffnesses : List ℕ) where
   -- The numbers of the job j, which the jobs js follow, stand at place i: its interval, the pages of a run for need and
   -- for loss, its rate at the shortest period, what the jobs after it need at least, its stiffness.
   pub record HoldsJob (i : ℕ) (j : Job) (js : List Job) : Type 0 where
     pub valid : ValidJob j
     pub shortest : getD spans i 0 ≡ j .lo .0
     pub longest : getD spans (8 + i) 0 ≡ j .hi .0
-    pub for-need : getD runs i 0 ≡ load j
-    pub for-loss : getD runs (8 + i) 0 ≡ cost j
+    pub for-need : getD pages i 0 ≡ load j
+    pub for-loss : getD pages (8 + i) 0 ≡ cost j
     pub fastest : getD rates i 0 ≡ rate j (j .lo) .0
     pub later : getD rates (8 + (i + 1)) 0 ≡ leastNeeds js
-    pub stiff : getD weights i 0 ≡ j .stiffness
+    pub stiff : getD stiffnesses i 0 ≡ j .stiffness
 
   abbrev pub HoldsJobs : ℕ → List Job → Type 0
   HoldsJobs i [] = Unit {0}

@@ -14,11 +14,11 @@ use Rattle.walk.specs.Arrays.{Held}
 
 -- What the job at place i loses at period t, by its numbers.
 abbrev pub lossHeld : List ℕ → List ℕ → List ℕ → ℕ → Seconds → ℕ
-lossHeld runs rates weights i t = lossAt (getD weights i 0) (pagesPerHour (getD rates i 0)) (getD runs (8 + i) 0) t
+lossHeld pages rates stiffnesses i t = lossAt (getD stiffnesses i 0) (pagesPerHour (getD rates i 0)) (getD pages (8 + i) 0) t
 
 -- The numbers for which that fits.
 abbrev pub LossHeldFits : List ℕ → List ℕ → List ℕ → ℕ → Seconds → Type 0
-LossHeldFits runs rates weights i t = LossFits (getD weights i 0) (pagesPerHour (getD rates i 0)) (getD runs (8 + i) 0) t
+LossHeldFits pages rates stiffnesses i t = LossFits (getD stiffnesses i 0) (pagesPerHour (getD rates i 0)) (getD pages (8 + i) 0) t
 
 -- The periods that the job at place i may try after `step`, by its interval.
 abbrev pub triesHeld : List ℕ → ℕ → Seconds → Tries
@@ -48,35 +48,35 @@ PassedOver a first = (d : ℕ) × (first ≤ d) × (d < a) × (a % d ≡ 0)
 
 -- The job at place i has no pages for need and none for loss, so at period t, a multiple of `step`, it repeats what it had at a smaller
 -- one from `first` on.
-pub record Repeats (runs : List ℕ) (i : ℕ) (step first t : Seconds) : Type 0 where
-  pub for-need : getD runs i 0 ≡ 0
-  pub for-loss : getD runs (8 + i) 0 ≡ 0
+pub record Repeats (pages : List ℕ) (i : ℕ) (step first t : Seconds) : Type 0 where
+  pub for-need : getD pages i 0 ≡ 0
+  pub for-loss : getD pages (8 + i) 0 ≡ 0
   pub passed : PassedOver (t .0 / step .0) (first .0 / step .0)
 
-module _ (spans runs rates weights : List ℕ) where
+module _ (spans pages rates stiffnesses : List ℕ) where
   -- Some jobs are so held, and t is a period.
   pub record Later (i n : ℕ) (t : Seconds) : Type 0 where
     pub js : List Job
-    pub held : Held spans runs rates weights i n js
+    pub held : Held spans pages rates stiffnesses i n js
     pub from : 1 ≤ t .0
 
   -- Some jobs are so held, and a node of i jobs stands before them.
   pub record Ready (i n : ℕ) (t : Seconds) (written lost : ℕ) : Type 0 where
     pub js : List Job
-    pub held : Held spans runs rates weights i n js
+    pub held : Held spans pages rates stiffnesses i n js
     pub from : 1 ≤ t .0
     pub to : t .0 ≤ 3600
     pub bounded : Bounded i t written lost
 
   -- r is the loss floor of the jobs from place i on.
   abbrev pub IsLossFloor : ℕ → ℕ → Seconds → ℕ → Type 0
-  IsLossFloor i n t r = (js : List Job) → Held spans runs rates weights i n js → r ≡ lossFloor js (t .0)
+  IsLossFloor i n t r = (js : List Job) → Held spans pages rates stiffnesses i n js → r ≡ lossFloor js (t .0)
 
 -- A node of i jobs stands before some jobs; what else than their intervals and least needs is held of them does not matter here.
 pub record ReadyForCut (spans rates : List ℕ) (i n : ℕ) (t : Seconds) (written : ℕ) : Type 0 where
-  pub runs : List ℕ
-  pub weights : List ℕ
-  pub ready : Ready spans runs rates weights i n t written 0
+  pub pages : List ℕ
+  pub stiffnesses : List ℕ
+  pub ready : Ready spans pages rates stiffnesses i n t written 0
 
 -- The first i periods.
 abbrev pub periodsIn : ℕ → List ℕ → List Seconds
@@ -86,10 +86,10 @@ module _ {A : Type 0} (f : ℕ → ℕ → List Seconds → A → A) where
   -- The walk from a node of i jobs on would leave what is had; `floor` is the node's loss floor.
   abbrev pub ChangesNothing : List ℕ → List ℕ → ℕ → ℕ → Seconds → ℕ → ℕ → A → Type 0
   ChangesNothing spans rates i n t written floor acc =
-      (runs weights : List ℕ) (js : List Job) (lost : ℕ) (ts : List Seconds) → Held spans runs rates weights i n js → floor ≡ lost + lossFloor js (t .0) →
+      (pages stiffnesses : List ℕ) (js : List Job) (lost : ℕ) (ts : List Seconds) → Held spans pages rates stiffnesses i n js → floor ≡ lost + lossFloor js (t .0) →
       walk f js (node t written lost ts) acc ≡ acc
 
   -- What that walk leaves: the periods before place i, and what it makes of what was had.
-  pub record Walked (spans runs rates weights : List ℕ) (i n : ℕ) (t : Seconds) (written lost : ℕ) (ps ps′ : List ℕ) (acc acc′ : A) : Type 0 where
+  pub record Walked (spans pages rates stiffnesses : List ℕ) (i n : ℕ) (t : Seconds) (written lost : ℕ) (ps ps′ : List ℕ) (acc acc′ : A) : Type 0 where
     pub before : take i ps′ ≡ take i ps
-    pub is : (js : List Job) → Held spans runs rates weights i n js → acc′ ≡ walk f js (node t written lost (periodsIn i ps)) acc
+    pub is : (js : List Job) → Held spans pages rates stiffnesses i n js → acc′ ≡ walk f js (node t written lost (periodsIn i ps)) acc

@@ -62,7 +62,7 @@ least-need-requires : tie.Need-least-need-requires
 least-need-requires c κs =
     let found = c .before .before .before .before in
     let made = found .before .before .before .before .before .before .before in
-    record { weights = _; ready = ready-start (held made) }
+    record { stiffnesses = _; ready = ready-start (held made) }
 
 refusal-requires : tie.Need-refusal-requires
 refusal-requires c κs = search needs
