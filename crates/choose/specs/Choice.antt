@@ -1,4 +1,4 @@
--- What `choose` may answer, in the words of document 01; cited by the public contract.
+-- What `choose` may answer, as a relation (document 01, Quantities and Refusal numbers). Cited by the public contract.
 -- Assumes nothing.
 use mathlib.Core.List.{List}
 use Prim.Native.Nat.{_≤_}
@@ -20,7 +20,7 @@ answered js ts = record { verdict = Sound; periods = padded (seconds 0) ts; need
 abbrev pub refused : Verdict → Choice
 refused v = record { verdict = v; periods = replicate 8 (seconds 0); need = pagesPerHour 0; loss = 0 }
 
--- The least budget that would do: some permitted periods fit it, and every budget that some fit is no smaller (Refusal numbers, 10).
+-- The smallest budget with an answer: some permitted periods fit it, and every budget that some fit is no smaller (Refusal numbers, 10).
 pub record LeastBudget (js : List Job) (m : PagesPerHour) : Type 0 where
   pub enough : (ts : List Seconds) × Permitted js ts × FitsBudget js ts m
   pub fewest : (b : PagesPerHour) (ts : List Seconds) → Permitted js ts → FitsBudget js ts b → m .0 ≤ b .0

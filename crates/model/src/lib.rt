@@ -108,7 +108,7 @@ pub fn detail(v: Verdict) -> u64
     }
 }
 
-// The verdict on a profile given as values: 3, then the first bad job, within it 5, 6, 8.
+// The verdict on a profile given as values: 3, else 5, 6 or 8 for the first bad job.
 pub fn judge(p: Profile) -> Verdict
     ensures { λ r. ⌜ r ≡ verdictOf p ⌝ }
 {

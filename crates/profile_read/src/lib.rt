@@ -27,7 +27,7 @@ struct Record {
     spare: u32,
 }
 
-// The values that bytes stand for, or why they are refused: 1, 2, 3, 4, then the first bad job, within it 5, 6, 7.
+// The values that bytes stand for, or why they are refused: 1 to 4 for the whole, else 5, 6 or 7 for the first bad job.
 pub fn read_profile(bytes: &[u8]) -> Reading
     ensures { λ r. ⌜ Reads (now (bytes .entry)) r ⌝ }
 {

@@ -14,8 +14,8 @@ use Rattle.model.specs.declared.Verdict.the-variants.{Sound}
 use Rattle.model.specs.Model.{Rising, jobsOf, Permitted, need, Best, verdictOf, PutsRows}
 use Rattle.table_row.specs.Table.{tableRow}
 
--- One row for each different best answer as the budget goes through all 32-bit numbers, each with a need below that of every
--- later row (The table: rising start; Quantities).
+-- Every list that is best for some 32-bit budget is a row, and nothing else is; each row needs less than every later one, so none
+-- stands twice (The table; Quantities).
 pub record TableOf (js : List Job) (rows : List (List Seconds)) : Type 0 where
   pub some-budget : (ts : List Seconds) → List·Memᴰ ts rows → (b : PagesPerHour) × (b .0 < 2 ^ 32) × Best js b ts
   pub every-budget : (b : PagesPerHour) (ts : List Seconds) → b .0 < 2 ^ 32 → Best js b ts → List·Memᴰ ts rows

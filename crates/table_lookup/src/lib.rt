@@ -12,7 +12,7 @@ ghost use Prim.Native.Nat.{ℕ};
 ghost use denote.Ref.{ptr};
 ghost use Rattle.table_lookup.specs.Lookup.{Answers, Locates, JudgesLookup, LooksUp};
 
-// The row that answers a budget, as those sixteen bytes of the lent table; an empty part on a refusal.
+// The row that answers a budget: its bytes where they lie in the caller's table; an empty part on a refusal.
 pub fn lookup<'a>(p: Profile, table: &'a [u8], budget: PagesPerHour) -> &'a [u8]
     ensures { λ r. ⌜ LooksUp p (now (table .entry)) (ptr (table .entry)) budget (now r) (ptr r) ⌝ }
 {
@@ -43,7 +43,7 @@ pub fn locate(p: Profile, table: &[u8], budget: PagesPerHour) -> Counted
     }
 }
 
-// Whether there is such a row, or the number and detail of the refusal.
+// The verdict by itself: sound where a row answers.
 pub fn judge_lookup(p: Profile, table: &[u8], budget: PagesPerHour) -> Verdict
     ensures { λ r. ⌜ JudgesLookup p (now (table .entry)) budget r ⌝ }
 {

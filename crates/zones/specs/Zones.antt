@@ -26,7 +26,7 @@ pub record IsZone (js : List Job) (z : Zone) : Type 0 where
   pub range : (t : ℕ) → ((z .least .0 ≤ t) × (t ≤ z .greatest .0)) ↔ Permitted js (periodsFor (z .multipliers) t)
   pub some : z .least .0 ≤ z .greatest .0
 
--- By a2, then a3, and so on: smaller at the first multiplier in which they differ, and they do differ (Zones).
+-- Smaller at the first multiplier in which the two differ, and there is one (Zones).
 abbrev pub Before : List ℕ → List ℕ → Type 0
 Before [] others = ⊥
 Before (a ∷ more) [] = ⊥
@@ -42,7 +42,7 @@ pub record ZonesOf (js : List Job) (zs : List Zone) : Type 0 where
 abbrev pub zoneWidths : List ℕ
 zoneWidths = 12 ∷ 12 ∷ 12 ∷ 12 ∷ 12 ∷ 12 ∷ 12 ∷ 12 ∷ 12 ∷ 20 ∷ []
 
--- Multipliers beyond n are 0, and so are the last 20 bits (Packing).
+-- What a zone lacks of eight multipliers is zeros, and so is the spare field (Packing).
 abbrev pub zoneFields : Zone → List ℕ
 zoneFields z = z .least .0 ∷ z .greatest .0 ∷ (entries 0 (z .multipliers) 1 7 ++ (0 ∷ []))
 
