@@ -9,8 +9,6 @@ use Rattle.table_stairs.specs.Rows.{PlacesLoseLess}
 use Rattle.table_stairs.proofs.Counting.{one-less, one-no-less}
 use Rattle.table_stairs.proofs.places_losing_less.Statement.{statement}
 use Rattle.table_stairs.proofs.places_losing_less.Tie as tie
-use Rattle.table_stairs.proofs.places_losing_less.Reads as reads
-use Rattle.table_stairs.proofs.places_losing_less.Lts as lts
 
 abbrev Inv-loop : tie.InvT-loop
 Inv-loop rows first step times loss less₀ x₀ less x = (x ≤ times) × PlacesLoseLess rows first step x loss less
@@ -18,47 +16,36 @@ Inv-loop rows first step times loss less₀ x₀ less x = (x ≤ times) × Place
 abbrev μ-loop : tie.MeasureT-loop
 μ-loop rows first step times loss less₀ x₀ less x = times - x
 
--- src/lib.rt:180:5
 loop-holds : tie.Need-loop-holds Inv-loop μ-loop
 loop-holds c = (omega arith, record { upto = omega arith; less = λ h. absurd (omega arith); no-less = λ h. absurd (omega arith) })
 
--- src/lib.rt:181:30
 mul-if1 : tie.Need-mul-if1 Inv-loop μ-loop
 mul-if1 c = search (needs, c .before .before .pre .within (c .before .loop .x) (omega arith))
 
--- src/lib.rt:181:22
 add-if1 : tie.Need-add-if1 Inv-loop μ-loop
 add-if1 c = search (needs, c .before .before .pre .within (c .before .loop .x) (omega arith))
 
--- src/lib.rt:181:17
 mul-if1-2 : tie.Need-mul-if1-2 Inv-loop μ-loop
 mul-if1-2 c = search (needs, c .before .before .pre .within (c .before .loop .x) (omega arith))
 
--- src/lib.rt:181:17
 add-if1-2 : tie.Need-add-if1-2 Inv-loop μ-loop
 add-if1-2 c = search (needs, c .before .before .pre .within (c .before .loop .x) (omega arith))
 
--- src/lib.rt:181:12
 mul-if1-3 : tie.Need-mul-if1-3 Inv-loop μ-loop
 mul-if1-3 c = search (needs, c .before .before .pre .within (c .before .loop .x) (omega arith))
 
--- src/lib.rt:181:12
 element-copy-out-if1 : tie.Need-element-copy-out-if1 Inv-loop μ-loop
 element-copy-out-if1 c = search (needs, c .before .before .pre .within (c .before .loop .x) (omega arith))
 
--- src/lib.rt:182:13
 add-less : tie.Need-add-less Inv-loop μ-loop
 add-less c = search needs
 
--- src/lib.rt:184:9
 add-x : tie.Need-add-x Inv-loop μ-loop
 add-x c = search needs
 
--- src/lib.rt:180:5
 loop-less : tie.Need-loop-less Inv-loop μ-loop
 loop-less c = search needs
 
--- src/lib.rt:180:5
 loop-again : tie.Need-loop-again Inv-loop μ-loop
 loop-again c =
     let entry = c .before .before .before .before in
@@ -67,7 +54,6 @@ loop-again c =
     let inside = c .before .before .loop-test .taken in
     (omega (arith, inside), ⊎-elim (λ w. rw (w .1) (one-less (entry .pre) inside counted (w .0 .taken))) (λ w. rw (w .1) (one-no-less (entry .pre) counted (w .0 .left))) (c .if1 .came))
 
--- src/lib.rt:168:1
 returns : tie.Need-returns Inv-loop μ-loop
 returns c =
     let l = c .before .loop in
