@@ -43,7 +43,7 @@ fn choose_sound(p: Profile, budget: PagesPerHour) -> Choice
     ensures { λ r. ⌜ Outcome (jobsOf p) budget r ⌝ }
 {
     let n = p.n as usize;
-    let seconds = walk::seconds_of(p);
+    let spans = walk::spans_of(p);
     let pages = walk::pages_of(p);
     let rates = walk::rates_of(p);
     let stiffnesses = walk::stiffnesses_of(p);
@@ -51,7 +51,7 @@ fn choose_sound(p: Profile, budget: PagesPerHour) -> Choice
     let mut best = [0u64; 10];
     best[LOSS] = NO_PLAN;
     choose_walk::find_best(
-        &seconds,
+        &spans,
         &pages,
         &rates,
         &stiffnesses,
@@ -67,7 +67,7 @@ fn choose_sound(p: Profile, budget: PagesPerHour) -> Choice
     if best[LOSS] != NO_PLAN {
         return plan(n, &best);
     }
-    let least = choose_walk::least_need(&seconds, &pages, &rates, 0, n, Seconds(1), 0, NO_NEED);
+    let least = choose_walk::least_need(&spans, &pages, &rates, 0, n, Seconds(1), 0, NO_NEED);
     if least.0 == NO_NEED.0 {
         return refusal(Verdict::NoPeriods);
     }

@@ -22,7 +22,7 @@ pub const NO_PLAN: u64 = 0xffff_ffff_ffff_ffff;
 // Whether a plan that begins so could be better than the best: jobs i to n are still to come, and the loss is at least
 // `floor`.
 pub fn may_win(
-    seconds: &[u32; 16],
+    spans: &[u32; 16],
     rates: &[u32; 17],
     i: usize,
     n: usize,
@@ -32,9 +32,9 @@ pub fn may_win(
     floor: u64,
     best: &[u64; 10],
 ) -> bool
-    requires { ⌜ ReadyForCut (now seconds) (now rates) i n t written ⌝ }
+    requires { ⌜ ReadyForCut (now spans) (now rates) i n t written ⌝ }
     requires { ⌜ floor < noPlan ⌝ }
-    ensures { λ r. ⌜ (r ≡ false → WinsNothing (now (seconds .entry)) (now (rates .entry)) i n budget t written floor (now (best .entry))) ⌝ }
+    ensures { λ r. ⌜ (r ≡ false → WinsNothing (now (spans .entry)) (now (rates .entry)) i n budget t written floor (now (best .entry))) ⌝ }
 {
     let need_floor = walk::need_floor(rates, i, t, written);
     if budget.0 < need_floor.0 {
@@ -45,7 +45,7 @@ pub fn may_win(
             return false;
         }
     }
-    walk::reaches(seconds, i, n, t)
+    walk::reaches(spans, i, n, t)
 }
 
 // One whole plan: kept if it fits the budget and has less loss than the best, or the same loss and less need.

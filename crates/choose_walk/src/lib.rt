@@ -16,7 +16,7 @@ ghost use Rattle.choose_walk.specs.Steps.{ReadyForNeed, Lessens, Lessens
 // Tries all permitted plans that begin with the first i of `periods`, each job's periods in rising order, and keeps the best that
 // fits. `step` is the last of these periods; in that time they have `written` so many pages, and they have `lost` so much.
 pub fn find_best(
-    seconds: &[u32; 16],
+    spans: &[u32; 16],
     pages: &[u32; 16],
     rates: &[u32; 17],
     stiffnesses: &[u32; 8],
@@ -29,19 +29,19 @@ pub fn find_best(
     periods: &mut [u32; 8],
     best: &mut [u64; 10],
 )
-    requires { ⌜ Ready (now seconds) (now pages) (now rates) (now stiffnesses) i n step written lost ⌝ }
+    requires { ⌜ Ready (now spans) (now pages) (now rates) (now stiffnesses) i n step written lost ⌝ }
     requires { ⌜ Sizes n (now periods) (now best) ⌝ }
-    ensures { λ _. ⌜ Walks (now (seconds .entry)) (now (pages .entry)) (now (rates .entry)) (now (stiffnesses .entry)) i n budget step written lost (now (periods .entry)) (now (periods .exit)) (now (best .entry)) (now (best .exit)) ⌝ }
+    ensures { λ _. ⌜ Walks (now (spans .entry)) (now (pages .entry)) (now (rates .entry)) (now (stiffnesses .entry)) i n budget step written lost (now (periods .entry)) (now (periods .exit)) (now (best .entry)) (now (best .exit)) ⌝ }
 {
     if i == n {
         choose_offer::offer(n, budget, step, written, lost, periods, best);
         return;
     }
-    let tries = walk::to_try(seconds, i, step);
+    let tries = walk::to_try(spans, i, step);
     let mut t = tries.first;
     while t.0 <= tries.last.0 {
         let here = walk::lost_with(pages, rates, stiffnesses, i, lost, t);
-        let floor = here + walk::loss_floor(seconds, pages, rates, stiffnesses, i + 1, n, t);
+        let floor = here + walk::loss_floor(spans, pages, rates, stiffnesses, i + 1, n, t);
         if best[LOSS] < floor {
             return;
         }
@@ -51,10 +51,10 @@ pub fn find_best(
             continue;
         }
         let more = step::carry(written, step, t, pages[i]);
-        if choose_offer::may_win(seconds, rates, i + 1, n, budget, t, more, floor, best) {
+        if choose_offer::may_win(spans, rates, i + 1, n, budget, t, more, floor, best) {
             periods[i] = t.0;
             find_best(
-                seconds,
+                spans,
                 pages,
                 rates,
                 stiffnesses,
@@ -75,7 +75,7 @@ pub fn find_best(
 // The least need of all permitted plans that begin with i periods, the last of them `step`, and `written` so many pages in
 // that time, or `had` if that is less; longest periods first.
 pub fn least_need(
-    seconds: &[u32; 16],
+    spans: &[u32; 16],
     pages: &[u32; 16],
     rates: &[u32; 17],
     i: usize,
@@ -84,20 +84,20 @@ pub fn least_need(
     written: u64,
     had: PagesPerHour,
 ) -> PagesPerHour
-    requires { ⌜ ReadyForNeed (now seconds) (now pages) (now rates) i n step written ⌝ }
-    ensures { λ r. ⌜ Lessens (now (seconds .entry)) (now (pages .entry)) (now (rates .entry)) i n step written had r ⌝ }
+    requires { ⌜ ReadyForNeed (now spans) (now pages) (now rates) i n step written ⌝ }
+    ensures { λ r. ⌜ Lessens (now (spans .entry)) (now (pages .entry)) (now (rates .entry)) i n step written had r ⌝ }
 {
     if i == n {
         return smaller(step::need_of(written, step), had);
     }
-    let tries = walk::to_try(seconds, i, step);
+    let tries = walk::to_try(spans, i, step);
     let mut least = had;
     let mut t = tries.last;
     while tries.first.0 <= t.0 {
         let more = step::carry(written, step, t, pages[i]);
         let next = Seconds(t.0 - step.0);
-        if may_lessen(seconds, rates, i + 1, n, t, more, least) {
-            least = least_need(seconds, pages, rates, i + 1, n, t, more, least);
+        if may_lessen(spans, rates, i + 1, n, t, more, least) {
+            least = least_need(spans, pages, rates, i + 1, n, t, more, least);
         }
         t = next;
     }
@@ -106,7 +106,7 @@ pub fn least_need(
 
 // Whether a plan that begins so could need less than `had`: jobs i to n are still to come.
 fn may_lessen(
-    seconds: &[u32; 16],
+    spans: &[u32; 16],
     rates: &[u32; 17],
     i: usize,
     n: usize,
@@ -114,14 +114,14 @@ fn may_lessen(
     written: u64,
     had: PagesPerHour,
 ) -> bool
-    requires { ⌜ ReadyForCut (now seconds) (now rates) i n t written ⌝ }
-    ensures { λ r. ⌜ (r ≡ false → LessensNothing (now (seconds .entry)) (now (rates .entry)) i n t written had) ⌝ }
+    requires { ⌜ ReadyForCut (now spans) (now rates) i n t written ⌝ }
+    ensures { λ r. ⌜ (r ≡ false → LessensNothing (now (spans .entry)) (now (rates .entry)) i n t written had) ⌝ }
 {
     let floor = walk::need_floor(rates, i, t, written);
     if had.0 <= floor.0 {
         return false;
     }
-    walk::reaches(seconds, i, n, t)
+    walk::reaches(spans, i, n, t)
 }
 
 fn smaller(a: PagesPerHour, b: PagesPerHour) -> PagesPerHour

@@ -25,12 +25,12 @@ pub fn answers_under(p: Profile, budget: PagesPerHour, rows: &mut [u64; 768]) ->
     requires { ⌜ length (now rows) ≡ 768 ⌝ }
     ensures { λ r. ⌜ AnswersIn p budget r (now (rows .exit)) ⌝ }
 {
-    let seconds = walk::seconds_of(p);
+    let spans = walk::spans_of(p);
     let pages = walk::pages_of(p);
     let rates = walk::rates_of(p);
     let stiffnesses = walk::stiffnesses_of(p);
     next_answers(
-        &seconds,
+        &spans,
         &pages,
         &rates,
         &stiffnesses,
@@ -42,7 +42,7 @@ pub fn answers_under(p: Profile, budget: PagesPerHour, rows: &mut [u64; 768]) ->
 
 // The same with the profile's numbers lent as arrays.
 fn next_answers(
-    seconds: &[u32; 16],
+    spans: &[u32; 16],
     pages: &[u32; 16],
     rates: &[u32; 17],
     stiffnesses: &[u32; 8],
@@ -50,15 +50,15 @@ fn next_answers(
     budget: PagesPerHour,
     rows: &mut [u64; 768],
 ) -> usize
-    requires { ⌜ Begins (now seconds) (now pages) (now rates) (now stiffnesses) n ⌝ }
+    requires { ⌜ Begins (now spans) (now pages) (now rates) (now stiffnesses) n ⌝ }
     requires { ⌜ length (now rows) ≡ 768 ⌝ }
-    ensures { λ r. ⌜ Collects (now (seconds .entry)) (now (pages .entry)) (now (rates .entry)) (now (stiffnesses .entry)) n budget r (now (rows .exit)) ⌝ }
+    ensures { λ r. ⌜ Collects (now (spans .entry)) (now (pages .entry)) (now (rates .entry)) (now (stiffnesses .entry)) n budget r (now (rows .exit)) ⌝ }
 {
     let mut periods = [0u32; 8];
     let mut marks = [0u64; 2];
     marks[BOUND] = NO_BOUND;
     find_stairs(
-        seconds,
+        spans,
         pages,
         rates,
         stiffnesses,
@@ -78,7 +78,7 @@ fn next_answers(
 // Tries all permitted plans that begin with the first i of `periods`, each job's periods in rising order, and lets those enter that
 // may. `step` is the last of these periods; in that time they have `written` so many pages, and they have `lost` so much.
 fn find_stairs(
-    seconds: &[u32; 16],
+    spans: &[u32; 16],
     pages: &[u32; 16],
     rates: &[u32; 17],
     stiffnesses: &[u32; 8],
@@ -92,19 +92,19 @@ fn find_stairs(
     rows: &mut [u64; 768],
     marks: &mut [u64; 2],
 )
-    requires { ⌜ Ready (now seconds) (now pages) (now rates) (now stiffnesses) i n step written lost ⌝ }
+    requires { ⌜ Ready (now spans) (now pages) (now rates) (now stiffnesses) i n step written lost ⌝ }
     requires { ⌜ Standing n (now periods) (now rows) (now marks) ⌝ }
-    ensures { λ _. ⌜ Climbs (now (seconds .entry)) (now (pages .entry)) (now (rates .entry)) (now (stiffnesses .entry)) i n budget step written lost (now (periods .entry)) (now (periods .exit)) (now (rows .entry)) (now (rows .exit)) (now (marks .entry)) (now (marks .exit)) ⌝ }
+    ensures { λ _. ⌜ Climbs (now (spans .entry)) (now (pages .entry)) (now (rates .entry)) (now (stiffnesses .entry)) i n budget step written lost (now (periods .entry)) (now (periods .exit)) (now (rows .entry)) (now (rows .exit)) (now (marks .entry)) (now (marks .exit)) ⌝ }
 {
     if i == n {
         table_stairs::enter_plan(n, budget, step, written, lost, periods, rows, marks);
         return;
     }
-    let tries = walk::to_try(seconds, i, step);
+    let tries = walk::to_try(spans, i, step);
     let mut t = tries.first;
     while t.0 <= tries.last.0 {
         let here = walk::lost_with(pages, rates, stiffnesses, i, lost, t);
-        let floor = here + walk::loss_floor(seconds, pages, rates, stiffnesses, i + 1, n, t);
+        let floor = here + walk::loss_floor(spans, pages, rates, stiffnesses, i + 1, n, t);
         if marks[BOUND] <= floor {
             return;
         }
@@ -114,21 +114,10 @@ fn find_stairs(
             continue;
         }
         let more = step::carry(written, step, t, pages[i]);
-        if table_stairs::may_enter(
-            seconds,
-            rates,
-            i + 1,
-            n,
-            budget,
-            t,
-            more,
-            floor,
-            rows,
-            marks,
-        ) {
+        if table_stairs::may_enter(spans, rates, i + 1, n, budget, t, more, floor, rows, marks) {
             periods[i] = t.0;
             find_stairs(
-                seconds,
+                spans,
                 pages,
                 rates,
                 stiffnesses,

@@ -31,7 +31,7 @@ pub const BOUND: usize = 1;
 
 // Whether a plan that begins so could enter: jobs i to n are still to come, and the loss is at least `floor`.
 pub fn may_enter(
-    seconds: &[u32; 16],
+    spans: &[u32; 16],
     rates: &[u32; 17],
     i: usize,
     n: usize,
@@ -42,11 +42,11 @@ pub fn may_enter(
     rows: &[u64; 768],
     marks: &[u64; 2],
 ) -> bool
-    requires { ⌜ ReadyForCut (now seconds) (now rates) i n t written ⌝ }
+    requires { ⌜ ReadyForCut (now spans) (now rates) i n t written ⌝ }
     requires { ⌜ floor < noBound ⌝ }
     requires { ⌜ getD (now marks) 0 0 ≤ 256 ⌝ }
     requires { ⌜ Rises (getD (now marks) 0 0) (now rows) ⌝ }
-    ensures { λ r. ⌜ (r ≡ false → EntersNothing (now (seconds .entry)) (now (rates .entry)) i n budget t written floor (now (rows .entry)) (now (marks .entry))) ⌝ }
+    ensures { λ r. ⌜ (r ≡ false → EntersNothing (now (spans .entry)) (now (rates .entry)) i n budget t written floor (now (rows .entry)) (now (marks .entry))) ⌝ }
 {
     let need_floor = walk::need_floor(rates, i, t, written);
     if budget.0 < need_floor.0 {
@@ -56,7 +56,7 @@ pub fn may_enter(
     if covers(rows, count, need_floor, floor) {
         return false;
     }
-    walk::reaches(seconds, i, n, t)
+    walk::reaches(spans, i, n, t)
 }
 
 // One whole plan: it enters if it fits the budget, loses less than the bound, and no row covers it.

@@ -17,7 +17,7 @@ use Rattle.model.specs.Valid.{ValidJob, ValidJobs, Valid}
 use Rattle.model.proofs.Entries.{entries-step, entries-end}
 use Rattle.step.specs.Step.{hourly}
 use Rattle.walk.specs.Walk.{leastNeeds}
-use Rattle.walk.specs.Arrays.{HoldsJob, HoldsJobs, Held, jobAt, Filled, first, second, SecondsFrom, PagesFrom, needsFrom, RatesFrom, StiffnessesFrom}
+use Rattle.walk.specs.Arrays.{HoldsJob, HoldsJobs, Held, jobAt, Filled, first, second, SpansFrom, PagesFrom, needsFrom, RatesFrom, StiffnessesFrom}
 use Rattle.walk.proofs.Bounds.{least-needs-bound}
 
 -- one entry more, in front
@@ -75,8 +75,8 @@ module _ {p : Profile} (v : Valid p) where
       let n≤ = v .n-to in
       omega arith
 
-  pub seconds-none : SecondsFrom p (p .n) (replicate 16 0)
-  seconds-none = record { size = refl; shortest = λ m from less. absurd (omega arith); longest = λ m from less. absurd (omega arith) }
+  pub spans-none : SpansFrom p (p .n) (replicate 16 0)
+  spans-none = record { size = refl; shortest = λ m from less. absurd (omega arith); longest = λ m from less. absurd (omega arith) }
 
   pub pages-none : PagesFrom p (p .n) (replicate 16 0)
   pages-none = record { size = refl; for-need = λ m from less. absurd (omega arith); for-loss = λ m from less. absurd (omega arith) }
@@ -108,8 +108,8 @@ module _ {p : Profile} (v : Valid p) where
         kept : (ys : List ℕ) → ys ≡ set xs (k - 1) a → Filled second g k end ys
         kept ys e m from less = let n≤ = v .n-to in rw e (getD-set-other xs (k - 1) (8 + m) a 0 (λ d. omega arith) ∙ i m from less)
 
-    pub seconds-more : {xs : List ℕ} → SecondsFrom p k xs → SecondsFrom p (k - 1) (set (set xs (k - 1) (jobAt p (k - 1) .lo .0)) (8 + (k - 1)) (jobAt p (k - 1) .hi .0))
-    seconds-more {xs} s =
+    pub spans-more : {xs : List ℕ} → SpansFrom p k xs → SpansFrom p (k - 1) (set (set xs (k - 1) (jobAt p (k - 1) .lo .0)) (8 + (k - 1)) (jobAt p (k - 1) .hi .0))
+    spans-more {xs} s =
         let size = s .size in
         let b = both-more _ _ xs (jobAt p (k - 1) .lo .0) (jobAt p (k - 1) .hi .0) (omega arith) refl refl (s .shortest) (s .longest) in
         record { size = length-set (set xs (k - 1) (jobAt p (k - 1) .lo .0)) (8 + (k - 1)) (jobAt p (k - 1) .hi .0) ∙ length-set xs (k - 1) (jobAt p (k - 1) .lo .0) ∙ size; shortest = b .0; longest = b .1 }
@@ -140,7 +140,7 @@ module _ {p : Profile} (v : Valid p) where
           record { size = length-set (set xs (k - 1) (fast .0)) (8 + (k - 1)) (slow .0 + needs) ∙ length-set xs (k - 1) (fast .0) ∙ size; fastest = b .0; needs = b .1 }
 
   -- all four arrays together hold the jobs
-  module _ {spans pages rates stiffnesses : List ℕ} (s : SecondsFrom p 0 spans) (g : PagesFrom p 0 pages) (r : RatesFrom p 0 rates) (w : StiffnessesFrom p 0 stiffnesses) where
+  module _ {spans pages rates stiffnesses : List ℕ} (s : SpansFrom p 0 spans) (g : PagesFrom p 0 pages) (r : RatesFrom p 0 rates) (w : StiffnessesFrom p 0 stiffnesses) where
     holds-from : (m i : ℕ) → i + m ≡ p .n → HoldsJobs spans pages rates stiffnesses i (entries noJob (p .jobs) i m)
     unfolding entries
     holds-from zero i e = tt

@@ -26,7 +26,7 @@ abbrev pub second : ℕ → ℕ
 second k = 8 + k
 
 -- The four arrays of a profile, as far as they are made when jobs from place k on are in.
-pub record SecondsFrom (p : Profile) (k : ℕ) (xs : List ℕ) : Type 0 where
+pub record SpansFrom (p : Profile) (k : ℕ) (xs : List ℕ) : Type 0 where
   pub size : length xs ≡ 16
   pub shortest : Filled first (λ m. jobAt p m .lo .0) k (p .n) xs
   pub longest : Filled second (λ m. jobAt p m .hi .0) k (p .n) xs

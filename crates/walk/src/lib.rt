@@ -15,23 +15,23 @@ ghost use Rattle.model.specs.Model.{pagesPerHour};
 ghost use Rattle.model.specs.Most.{mostNeed, mostLoss};
 ghost use Rattle.model.specs.Valid.{Valid};
 ghost use Rattle.step.specs.Step.{needAt, NeedFits};
-ghost use Rattle.walk.specs.Arrays.{SecondsFrom, PagesFrom, RatesFrom, StiffnessesFrom};
+ghost use Rattle.walk.specs.Arrays.{SpansFrom, PagesFrom, RatesFrom, StiffnessesFrom};
 ghost use Rattle.walk.specs.Steps.{lossHeld, LossHeldFits, triesHeld, MayTry, Ends, Unreached, PassedOver, Repeats, Later, IsLossFloor};
 
 // The shortest periods of the jobs, then the longest.
-pub fn seconds_of(p: Profile) -> [u32; 16]
+pub fn spans_of(p: Profile) -> [u32; 16]
     requires { ⌜ Valid p ⌝ }
-    ensures { λ r. ⌜ SecondsFrom p 0 r ⌝ }
+    ensures { λ r. ⌜ SpansFrom p 0 r ⌝ }
 {
-    let mut seconds = [0u32; 16];
+    let mut spans = [0u32; 16];
     let mut k = p.n as usize;
     while 0 < k {
         k -= 1;
         let j = p.jobs[k];
-        seconds[k] = j.lo.0;
-        seconds[8 + k] = j.hi.0;
+        spans[k] = j.lo.0;
+        spans[8 + k] = j.hi.0;
     }
-    seconds
+    spans
 }
 
 // The pages of a run that need counts, then those that loss counts.
@@ -91,12 +91,12 @@ pub struct Tries {
 }
 
 // The periods that job i may try: the multiples of `step` in its interval.
-pub fn to_try(seconds: &[u32; 16], i: usize, step: Seconds) -> Tries
-    requires { ⌜ MayTry (now seconds) i step ⌝ }
-    ensures { λ r. ⌜ r ≡ triesHeld (now (seconds .entry)) i step ⌝ }
+pub fn to_try(spans: &[u32; 16], i: usize, step: Seconds) -> Tries
+    requires { ⌜ MayTry (now spans) i step ⌝ }
+    ensures { λ r. ⌜ r ≡ triesHeld (now (spans .entry)) i step ⌝ }
 {
-    let lo = seconds[i];
-    let hi = seconds[8 + i];
+    let lo = spans[i];
+    let hi = spans[8 + i];
     Tries {
         first: Seconds((lo + (step.0 - 1)) / step.0 * step.0),
         last: Seconds(hi / step.0 * step.0),
@@ -132,7 +132,7 @@ pub fn need_floor(rates: &[u32; 17], i: usize, t: Seconds, written: u64) -> Page
 
 // The lowest loss that jobs i to n can come to when no period is shorter than t.
 pub fn loss_floor(
-    seconds: &[u32; 16],
+    spans: &[u32; 16],
     pages: &[u32; 16],
     rates: &[u32; 17],
     stiffnesses: &[u32; 8],
@@ -140,27 +140,27 @@ pub fn loss_floor(
     n: usize,
     t: Seconds,
 ) -> u64
-    requires { ⌜ Later (now seconds) (now pages) (now rates) (now stiffnesses) i n t ⌝ }
-    ensures { λ r. ⌜ IsLossFloor (now (seconds .entry)) (now (pages .entry)) (now (rates .entry)) (now (stiffnesses .entry)) i n t r ⌝ }
+    requires { ⌜ Later (now spans) (now pages) (now rates) (now stiffnesses) i n t ⌝ }
+    ensures { λ r. ⌜ IsLossFloor (now (spans .entry)) (now (pages .entry)) (now (rates .entry)) (now (stiffnesses .entry)) i n t r ⌝ }
 {
     let mut floor: u64 = 0;
     let mut k = n;
     while i < k {
         k -= 1;
-        let u = longer(Seconds(seconds[k]), t);
+        let u = longer(Seconds(spans[k]), t);
         floor = step::job_loss(stiffnesses[k], PagesPerHour(rates[k]), pages[8 + k], u) + floor;
     }
     floor
 }
 
 // Whether each of the jobs i to n has a multiple of t in its interval.
-pub fn reaches(seconds: &[u32; 16], i: usize, n: usize, t: Seconds) -> bool
-    requires { ⌜ Ends (now seconds) i n t ⌝ }
-    ensures { λ r. ⌜ (r ≡ false → Unreached (now (seconds .entry)) i n t) ⌝ }
+pub fn reaches(spans: &[u32; 16], i: usize, n: usize, t: Seconds) -> bool
+    requires { ⌜ Ends (now spans) i n t ⌝ }
+    ensures { λ r. ⌜ (r ≡ false → Unreached (now (spans .entry)) i n t) ⌝ }
 {
     let mut k = i;
     while k < n {
-        if seconds[8 + k] / t.0 * t.0 < seconds[k] {
+        if spans[8 + k] / t.0 * t.0 < spans[k] {
             return false;
         }
         k += 1;

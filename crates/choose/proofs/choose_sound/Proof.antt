@@ -14,8 +14,8 @@ use Rattle.choose.proofs.choose_sound.Tie as tie
 cast-n : tie.Need-cast-n
 cast-n c = search needs
 
-seconds-of-requires : tie.Need-seconds-of-requires
-seconds-of-requires c κs = search needs
+spans-of-requires : tie.Need-spans-of-requires
+spans-of-requires c κs = search needs
 
 pages-of-requires : tie.Need-pages-of-requires
 pages-of-requires c κs = search needs
@@ -31,11 +31,11 @@ array-write-best c = search needs
 
 -- the arrays hold the jobs
 held : (c : tie.After-stiffnesses-of) →
-    Held (c .before .before .before .seconds-of .result) (c .before .before .pages-of .result) (c .before .rates-of .result) (c .stiffnesses-of .result)
+    Held (c .before .before .before .spans-of .result) (c .before .before .pages-of .result) (c .before .rates-of .result) (c .stiffnesses-of .result)
     0 (c .before .before .before .before .before .args .p .n) (jobsOf (c .before .before .before .before .before .args .p))
 held c =
     let s = c .before .before .before .before .before in
-    all-held (s .pre) (c .before .before .before .seconds-of .ensures) (c .before .before .pages-of .ensures) (c .before .rates-of .ensures) (c .stiffnesses-of .ensures)
+    all-held (s .pre) (c .before .before .before .spans-of .ensures) (c .before .before .pages-of .ensures) (c .before .rates-of .ensures) (c .stiffnesses-of .ensures)
 
 find-best-requires : tie.Need-find-best-requires
 find-best-requires c κs =
@@ -91,7 +91,7 @@ choose-sound-spec =
     tie.close
     (tie.spec
     cast-n
-    seconds-of-requires
+    spans-of-requires
     pages-of-requires
     rates-of-requires
     stiffnesses-of-requires

@@ -58,11 +58,11 @@ claims t = (
 )
 
 abbrev Inv-loop : find-best-lts.InvT-loop
-Inv-loop seconds pages rates stiffnesses i n budget step written lost periods₀ best₀ tries t₀ periods best t =
-    Sizes n periods best × Up (pick (budget .0)) seconds pages rates stiffnesses i n step written lost periods₀ (foundIn n best₀) periods (foundIn n best) t
+Inv-loop spans pages rates stiffnesses i n budget step written lost periods₀ best₀ tries t₀ periods best t =
+    Sizes n periods best × Up (pick (budget .0)) spans pages rates stiffnesses i n step written lost periods₀ (foundIn n best₀) periods (foundIn n best) t
 
 abbrev μ-loop : find-best-lts.MeasureT-loop
-μ-loop seconds pages rates stiffnesses i n budget step written lost periods₀ best₀ tries t₀ periods best t = tries .last .0 + 1 - t .0
+μ-loop spans pages rates stiffnesses i n budget step written lost periods₀ best₀ tries t₀ periods best t = tries .last .0 + 1 - t .0
 
 -- a period more takes no room
 size-set : {n : ℕ} {ps best : List ℕ} (i x : ℕ) → Sizes n ps best → Sizes n (set ps i x) best
@@ -97,7 +97,7 @@ abbrev Known : (t : ℕ) → find-best-lts.Then2 (claims t) (given t) find-best.
 Known t c =
     let l = c .before .before .before .loop in
     let a = c .before .before .before .before .before .before .before .args in
-    Turn AnyFound (pick (a .budget .0)) (a .seconds .now) (a .pages .now) (a .rates .now) (a .stiffnesses .now) (a .i) (a .n) (a .step)
+    Turn AnyFound (pick (a .budget .0)) (a .spans .now) (a .pages .now) (a .rates .now) (a .stiffnesses .now) (a .i) (a .n) (a .step)
     (a .written) (a .lost) (a .periods .now) (foundIn (a .n) (a .best .now)) (l .periods) (foundIn (a .n) (l .best)) (l .t)
 
 facts : (t : ℕ) (c : find-best-lts.Then2 (claims t) (given t) find-best.Post Inv-loop μ-loop) → Known t c

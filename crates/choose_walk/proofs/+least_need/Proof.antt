@@ -47,10 +47,10 @@ claims t = (
 )
 
 abbrev Inv-loop : least-need-lts.InvT-loop
-Inv-loop seconds pages rates i n step written tries least₀ t₀ least t = Down seconds pages rates i n step written least₀ least t
+Inv-loop spans pages rates i n step written tries least₀ t₀ least t = Down spans pages rates i n step written least₀ least t
 
 abbrev μ-loop : least-need-lts.MeasureT-loop
-μ-loop seconds pages rates i n step written tries least₀ t₀ least t = t .0
+μ-loop spans pages rates i n step written tries least₀ t₀ least t = t .0
 
 need-of-requires : (t : ℕ) → least-need-lts.Need-need-of-requires (claims t) (given t) least-need.Post Inv-loop μ-loop
 need-of-requires t c κs = ready-need (c .before .pre .1 .ready)
@@ -74,7 +74,7 @@ abbrev Known : (t : ℕ) → least-need-lts.Then2 (claims t) (given t) least-nee
 Known t c =
     let l = c .before .before .before .loop in
     let a = c .before .before .before .before .before .before .before .args in
-    DownTurn (a .seconds .now) (a .pages .now) (a .rates .now) (a .i) (a .n) (a .step) (a .written) (a .had) (l .least) (l .t)
+    DownTurn (a .spans .now) (a .pages .now) (a .rates .now) (a .i) (a .n) (a .step) (a .written) (a .had) (l .least) (l .t)
 
 facts : (t : ℕ) (c : least-need-lts.Then2 (claims t) (given t) least-need.Post Inv-loop μ-loop) → Known t c
 facts t c =

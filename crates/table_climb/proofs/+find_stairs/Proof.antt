@@ -56,12 +56,12 @@ claims t = (
 )
 
 abbrev Inv-loop : find-stairs-lts.InvT-loop
-Inv-loop seconds pages rates stiffnesses i n budget step written lost periods₀ rows₀ marks₀ tries t₀ periods rows marks t =
+Inv-loop spans pages rates stiffnesses i n budget step written lost periods₀ rows₀ marks₀ tries t₀ periods rows marks t =
     Standing n periods rows marks
-    × Up (enter most (budget .0)) seconds pages rates stiffnesses i n step written lost periods₀ (stairsOf n rows₀ marks₀) periods (stairsOf n rows marks) t
+    × Up (enter most (budget .0)) spans pages rates stiffnesses i n step written lost periods₀ (stairsOf n rows₀ marks₀) periods (stairsOf n rows marks) t
 
 abbrev μ-loop : find-stairs-lts.MeasureT-loop
-μ-loop seconds pages rates stiffnesses i n budget step written lost periods₀ rows₀ marks₀ tries t₀ periods rows marks t = tries .last .0 + 1 - t .0
+μ-loop spans pages rates stiffnesses i n budget step written lost periods₀ rows₀ marks₀ tries t₀ periods rows marks t = tries .last .0 + 1 - t .0
 
 enter-plan-requires : (t : ℕ) → find-stairs-lts.Need-enter-plan-requires (claims t) (given t) find-stairs.Post Inv-loop μ-loop
 enter-plan-requires t c κs =
@@ -90,7 +90,7 @@ abbrev Known : (t : ℕ) → find-stairs-lts.Then2 (claims t) (given t) find-sta
 Known t c =
     let l = c .before .before .before .loop in
     let a = c .before .before .before .before .before .before .before .args in
-    Turn Ordered (enter most (a .budget .0)) (a .seconds .now) (a .pages .now) (a .rates .now) (a .stiffnesses .now) (a .i) (a .n) (a .step)
+    Turn Ordered (enter most (a .budget .0)) (a .spans .now) (a .pages .now) (a .rates .now) (a .stiffnesses .now) (a .i) (a .n) (a .step)
     (a .written) (a .lost) (a .periods .now) (stairsOf (a .n) (a .rows .now) (a .marks .now)) (l .periods) (stairsOf (a .n) (l .rows) (l .marks)) (l .t)
 
 facts : (t : ℕ) (c : find-stairs-lts.Then2 (claims t) (given t) find-stairs.Post Inv-loop μ-loop) → Known t c

@@ -7,8 +7,8 @@ use Rattle.table_climb.proofs.Collected.{collected-answers}
 use Rattle.table_climb.proofs.answers_under.Statement.{statement}
 use Rattle.table_climb.proofs.answers_under.Tie as tie
 
-seconds-of-requires : tie.Need-seconds-of-requires
-seconds-of-requires c κs = search needs
+spans-of-requires : tie.Need-spans-of-requires
+spans-of-requires c κs = search needs
 
 pages-of-requires : tie.Need-pages-of-requires
 pages-of-requires c κs = search needs
@@ -28,7 +28,7 @@ next-answers-requires c κs =
     let r = w .before in
     let a = r .before in
     let s = a .before in
-    (ready-start (all-held (s .before .pre .0) (s .seconds-of .ensures) (a .pages-of .ensures) (r .rates-of .ensures) (w .stiffnesses-of .ensures)), s .before .pre .1)
+    (ready-start (all-held (s .before .pre .0) (s .spans-of .ensures) (a .pages-of .ensures) (r .rates-of .ensures) (w .stiffnesses-of .ensures)), s .before .pre .1)
 
 returns : tie.Need-returns
 returns c =
@@ -36,13 +36,13 @@ returns c =
     let r = w .before in
     let a = r .before in
     let s = a .before in
-    collected-answers (s .before .pre .0) (all-held (s .before .pre .0) (s .seconds-of .ensures) (a .pages-of .ensures) (r .rates-of .ensures) (w .stiffnesses-of .ensures)) (c .next-answers .ensures)
+    collected-answers (s .before .pre .0) (all-held (s .before .pre .0) (s .spans-of .ensures) (a .pages-of .ensures) (r .rates-of .ensures) (w .stiffnesses-of .ensures)) (c .next-answers .ensures)
 
 pub answers-under-spec : {M : Type 1} → statement M
 answers-under-spec =
     tie.close
     (tie.spec
-    seconds-of-requires
+    spans-of-requires
     pages-of-requires
     rates-of-requires
     stiffnesses-of-requires

@@ -8,10 +8,10 @@ use Rattle.walk.proofs.loss_floor.Statement.{statement}
 use Rattle.walk.proofs.loss_floor.Tie as tie
 
 abbrev Inv-loop : tie.InvT-loop
-Inv-loop seconds pages rates stiffnesses i n t floor₀ k₀ floor k = FloorFrom seconds pages rates stiffnesses i n t floor k
+Inv-loop spans pages rates stiffnesses i n t floor₀ k₀ floor k = FloorFrom spans pages rates stiffnesses i n t floor k
 
 abbrev μ-loop : tie.MeasureT-loop
-μ-loop seconds pages rates stiffnesses i n t floor₀ k₀ floor k = k
+μ-loop spans pages rates stiffnesses i n t floor₀ k₀ floor k = k
 
 loop-holds : tie.Need-loop-holds Inv-loop μ-loop
 loop-holds c = floor-none (c .pre)

@@ -10,10 +10,10 @@ use Rattle.walk.proofs.reaches.Statement.{statement}
 use Rattle.walk.proofs.reaches.Tie as tie
 
 abbrev Inv-loop : tie.InvT-loop
-Inv-loop seconds i n t k₀ k = i ≤ k
+Inv-loop spans i n t k₀ k = i ≤ k
 
 abbrev μ-loop : tie.MeasureT-loop
-μ-loop seconds i n t k₀ k = n - k
+μ-loop spans i n t k₀ k = n - k
 
 loop-holds : tie.Need-loop-holds Inv-loop μ-loop
 loop-holds c = search needs
@@ -34,7 +34,7 @@ mul-if1-2 : tie.Need-mul-if1-2 Inv-loop μ-loop
 mul-if1-2 c =
     let s = c .before .before .before .before in
     let a = s .before .args in
-    omega (arith, div-mul-le-self (getD (a .seconds .now) (8 + s .loop .k) 0) (a .t .0), s .before .pre .to (s .loop .k) (s .loop .inv) (c .before .before .before .loop-test .taken))
+    omega (arith, div-mul-le-self (getD (a .spans .now) (8 + s .loop .k) 0) (a .t .0), s .before .pre .to (s .loop .k) (s .loop .inv) (c .before .before .before .loop-test .taken))
 
 mul-if1-3 : tie.Need-mul-if1-3 Inv-loop μ-loop
 mul-if1-3 c = search needs

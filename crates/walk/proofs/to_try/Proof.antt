@@ -36,7 +36,7 @@ mul-t15 : tie.Need-mul-t15
 mul-t15 c =
     let s = c .before .before .before .before .before in
     let a = s .args in
-    omega (arith, s .pre .shortest-to, s .pre .from, s .pre .to, div-mul-le-self (getD (a .seconds .now) (a .i) 0 + (a .step .0 - 1)) (a .step .0))
+    omega (arith, s .pre .shortest-to, s .pre .from, s .pre .to, div-mul-le-self (getD (a .spans .now) (a .i) 0 + (a .step .0 - 1)) (a .step .0))
 
 div-t17 : tie.Need-div-t17
 div-t17 c = search needs
@@ -45,7 +45,7 @@ mul-t18 : tie.Need-mul-t18
 mul-t18 c =
     let s = c .before .before .before .before .before .before .before in
     let a = s .args in
-    omega (arith, s .pre .longest-to, div-mul-le-self (getD (a .seconds .now) (8 + a .i) 0) (a .step .0))
+    omega (arith, s .pre .longest-to, div-mul-le-self (getD (a .spans .now) (8 + a .i) 0) (a .step .0))
 
 returns : tie.Need-returns
 returns c = search needs
