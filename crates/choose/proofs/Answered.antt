@@ -13,17 +13,19 @@ use Rattle.model.specs.declared.Verdict.the-variants.{NoPeriods, Budget}
 use Rattle.model.specs.Model.{seconds, pagesPerHour, PermittedAfter}
 use Rattle.model.specs.Valid.{ValidJobs}
 use Rattle.choose.specs.Choice.{refused, Outcome}
+use Rattle.choose.specs.Least.{LeastOrNone}
 use Rattle.walk.specs.Walk.{start, walk, walkDown}
 use Rattle.choose_offer.specs.Found.{nothing, found, pick}
 use Rattle.choose_walk.specs.Least.{none, least, lessNeed}
+use Rattle.choose_walk.specs.Best.{BestFound, BestOrNone}
 use Rattle.walk.specs.Arrays.{Held}
 use Rattle.walk.specs.Steps.{periodsIn}
 use Rattle.choose_offer.specs.Steps.{noPlan, foundIn}
 use Rattle.choose_walk.specs.Steps.{noNeed, leastIn, Lessens, Walks}
 use Rattle.choose.specs.Steps.{settle, Small, planIn}
 use Rattle.walk.proofs.Falling.{down-lists}
-use Rattle.choose_walk.proofs.Fold.{BestFound, BestOrNone, walk-best}
-use Rattle.choose.proofs.LeastNeed.{LeastOrNone, walk-least}
+use Rattle.choose_walk.proofs.Fold.{walk-best}
+use Rattle.choose.proofs.LeastNeed.{walk-least}
 use Rattle.choose.proofs.Settled.{settled}
 use Rattle.walk.proofs.Held.{held-valid}
 use Rattle.choose_walk.proofs.Lessening.{some-least, no-least}

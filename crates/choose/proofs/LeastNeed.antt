@@ -9,13 +9,14 @@ use native.Mathlib.Decide.{decLe}
 use native.Mathlib.Nat.{le-refl, le-trans}
 use Rattle.model.specs.declared.Seconds.{Seconds}
 use Rattle.model.specs.declared.Job.{Job}
-use Rattle.model.specs.Model.{seconds, pagesPerHour, Permitted, need, loss}
+use Rattle.model.specs.Model.{seconds, Permitted, need, loss}
 use Rattle.model.specs.Valid.{ValidJobs}
-use Rattle.choose.specs.Choice.{LeastBudget}
+use Rattle.choose.specs.Least.{LeastOrNone}
 use Rattle.walk.specs.Chains.{chainsBy}
 use Rattle.walk.specs.Walk.{visit, start, walkBy}
 use Rattle.choose_walk.specs.Least.{Least, none, least, lessNeed}
-use Rattle.walk.proofs.Chains.{ListsAllowed, chains-only, chains-all}
+use Rattle.walk.specs.Laws.{ListsAllowed}
+use Rattle.walk.proofs.Chains.{chains-only, chains-all}
 use Rattle.walk.proofs.Walk.{walk-all}
 
 -- What is had is the need of some permitted list.
@@ -69,11 +70,6 @@ module _ (js : List Job) where
     where
       here : us ≡ x → AtMost js (visit (lessening js) (lessening js x had) xs) us
       here e = fold-more xs (lessening js x had) us (subst (λ (l : List Seconds). AtMost js (lessening js x had) l) (sym e) (step-here x had))
-
--- What is found at the end: the least budget, or none, and then no list is permitted.
-abbrev pub LeastOrNone : List Job → Least → Type 0
-LeastOrNone js none = (ts : List Seconds) → Permitted js ts → ⊥
-LeastOrNone js (least m) = LeastBudget js (pagesPerHour m)
 
 least-or-none : (js : List Job) (after : Least) → IsNeed js after → ((us : List Seconds) → Permitted js us → AtMost js after us) → LeastOrNone js after
 least-or-none js none s k = k

@@ -12,9 +12,9 @@ use Rattle.choose.specs.declared.Choice.{Choice}
 use Rattle.choose.specs.Choice.{answered, refused, Chosen, Outcome, given, none-permitted, none-fit}
 use Rattle.choose_offer.specs.Found.{Found, nothing, found}
 use Rattle.choose_walk.specs.Least.{Least, none, least}
+use Rattle.choose_walk.specs.Best.{BestOrNone}
 use Rattle.choose.specs.Steps.{settle}
-use Rattle.choose_walk.proofs.Fold.{BestOrNone}
-use Rattle.choose.proofs.LeastNeed.{LeastOrNone}
+use Rattle.choose.specs.Least.{LeastOrNone}
 
 pub settled : (js : List Job) (b : PagesPerHour) (had : Found) (m : Least) → BestOrNone js b had → LeastOrNone js m → Outcome js b (settle had m)
 unfolding settle

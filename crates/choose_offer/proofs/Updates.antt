@@ -11,7 +11,7 @@ use lib.Dec.{leb, eqb}
 use borrow.Author.Tests.{le-leb, lt-leb, lt-ltb, le-ltb, eq-eqb, ne-eqb}
 use Rattle.model.specs.declared.Seconds.{Seconds}
 use Rattle.choose_offer.specs.Found.{Found, nothing, found, beats, pick}
-use Rattle.walk.proofs.Walk.{Keeps}
+use Rattle.walk.specs.Laws.{Keeps}
 use Rattle.walk.proofs.Pageless.{Absorbs}
 
 module _ (b q l : ℕ) (ts : List Seconds) where

@@ -12,7 +12,7 @@ use Rattle.choose_offer.specs.Found.{Found, pick}
 use Rattle.step.specs.Step.{needAt}
 use Rattle.walk.specs.Steps.{Unreached, ReadyForCut, periodsIn}
 use Rattle.choose_offer.specs.Steps.{noPlan, foundIn, WinsNothing}
-use Rattle.walk.proofs.Walk.{Keeps}
+use Rattle.walk.specs.Laws.{Keeps}
 use Rattle.walk.proofs.Cuts.{floors-cut, reach-cut}
 use Rattle.choose_offer.proofs.Updates.{keeps-over, keeps-more-loss, keeps-no-less}
 use Rattle.choose_offer.proofs.Stored.{plan-found}

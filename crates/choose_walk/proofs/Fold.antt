@@ -10,12 +10,14 @@ use native.Mathlib.Nat.{le-refl}
 use Rattle.model.specs.declared.Seconds.{Seconds}
 use Rattle.model.specs.declared.PagesPerHour.{PagesPerHour}
 use Rattle.model.specs.declared.Job.{Job}
-use Rattle.model.specs.Model.{seconds, Permitted, need, FitsBudget, loss, NotAfter, NoWorse, Best}
+use Rattle.model.specs.Model.{seconds, Permitted, need, loss, NotAfter, NoWorse}
 use Rattle.model.specs.Valid.{ValidJobs}
 use Rattle.walk.specs.Chains.{chains}
 use Rattle.walk.specs.Walk.{visit, start, walk}
 use Rattle.choose_offer.specs.Found.{Found, nothing, found, pick}
-use Rattle.walk.proofs.Sorted.{not-after-self, Sorted}
+use Rattle.choose_walk.specs.Best.{BestOrNone}
+use Rattle.walk.specs.Laws.{Sorted}
+use Rattle.walk.proofs.Sorted.{not-after-self}
 use Rattle.walk.proofs.Chains.{multiples-lists, chains-only, chains-all, chains-sorted}
 use Rattle.walk.proofs.Walk.{walk-all}
 use Rattle.choose_offer.proofs.Updates.{pick-over, pick-first, pick-less-loss, pick-less-need, pick-more-loss, pick-no-less}
@@ -129,16 +131,6 @@ module _ (js : List Job) (b : ℕ) where
     where
       here : (after : Found) → Covers js b after x → (us : List Seconds) → us ≡ x → Covers js b after us
       here after c us e = subst (Covers js b after) (sym e) c
-
--- What is found at the end: the best list with its need and loss, or nothing, and then no permitted list fits.
-pub record BestFound (js : List Job) (b : PagesPerHour) (q l : ℕ) (ts : List Seconds) : Type 0 where
-  pub its-need : q ≡ need js ts .0
-  pub its-loss : l ≡ loss js ts
-  pub best : Best js b ts
-
-abbrev pub BestOrNone : List Job → PagesPerHour → Found → Type 0
-BestOrNone js b nothing = (ts : List Seconds) → Permitted js ts → FitsBudget js ts b → ⊥
-BestOrNone js b (found q l ts) = BestFound js b q l ts
 
 best-or-none : (js : List Job) (b : PagesPerHour) → ValidJobs js → (after : Found) → Passed js (b .0) (chains (seconds 1) js) nothing after → BestOrNone js b after
 best-or-none js b v nothing p = λ ts h fits. p .covers ts (chains-all multiples-lists js ts v (le-refl 1) h) fits

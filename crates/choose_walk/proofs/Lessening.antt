@@ -24,7 +24,8 @@ use Rattle.choose_walk.specs.Steps.{ReadyForNeed, noNeed, leastIn, Lesse
 use Rattle.model.proofs.Rounding.{round-up-above, multiple-is, split-product}
 use Rattle.walk.proofs.Floors.{multiple-above}
 use Rattle.walk.proofs.Falling.{down-lists}
-use Rattle.walk.proofs.Walk.{Keeps, walk-cut}
+use Rattle.walk.specs.Laws.{Keeps}
+use Rattle.walk.proofs.Walk.{walk-cut}
 use Rattle.walk.proofs.Loops.{down-opens, down-takes, down-ends}
 use Rattle.walk.proofs.Held.{held-open, held-none, held-next, held-valid}
 use Rattle.walk.proofs.Cuts.{need-floor-is, unreached, ready-need, need-floor-to, ready-longest, next-ready}

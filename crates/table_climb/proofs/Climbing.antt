@@ -14,8 +14,7 @@ use Rattle.model.specs.Model.{seconds}
 use Rattle.table_stairs.specs.Stairs.{Stair, Stairs, noBound}
 use Rattle.table_stairs.specs.Rows.{stairAt, rowsFrom, stairsOf, Rises, Standing}
 use Rattle.table_climb.specs.Steps.{Climbs, Collects}
-use Rattle.table_climb.proofs.Order.{Above, Staircase}
-use Rattle.table_climb.proofs.Ordered.{Ordered}
+use Rattle.table_climb.specs.Collected.{Above, Staircase, Ordered}
 
 -- what stands in the array is in order below the bound
 module _ (n : ℕ) (flat : List ℕ) where

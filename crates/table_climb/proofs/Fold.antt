@@ -8,42 +8,21 @@ use mathlib.Core.Bool.{false, false≢true}
 use Prim.Native.Nat.{ℕ, _≤_, _<_}
 use native.Mathlib.Omega.{arith}
 use native.Mathlib.Nat.{le-refl, le-trans}
-use lib.ListN.{length}
 use Rattle.model.specs.declared.Seconds.{Seconds}
 use Rattle.model.specs.declared.Job.{Job}
 use Rattle.model.specs.Model.{seconds, Permitted, need, loss, NotAfter}
 use Rattle.model.specs.Valid.{ValidJobs}
 use Rattle.walk.specs.Chains.{chains}
 use Rattle.walk.specs.Walk.{visit, start, walk}
-use Rattle.table_stairs.specs.Stairs.{Stair, stair, Stairs, noBound, noStairs, covered, among, atMost, enter}
-use Rattle.walk.proofs.Sorted.{not-after-self, Sorted}
+use Rattle.table_stairs.specs.Stairs.{Stair, stair, Stairs, noStairs, covered, Covering, among, atMost, enter}
+use Rattle.walk.specs.Laws.{Sorted}
+use Rattle.walk.proofs.Sorted.{not-after-self}
 use Rattle.walk.proofs.Chains.{multiples-lists, chains-only, chains-all, chains-sorted}
 use Rattle.walk.proofs.Walk.{walk-all}
-use Rattle.table_stairs.proofs.Updates.{Covering, covers}
+use Rattle.table_climb.specs.Collected.{Ordered, Plan, Law, Served, Serves, Collected}
+use Rattle.table_stairs.proofs.Updates.{covers}
 use Rattle.table_climb.proofs.Order.{among-new, among-some, among-in, among-has}
-use Rattle.table_climb.proofs.Ordered.{Ordered, entered, Limited, enter-either}
-
--- A row is a permitted plan that fits, with its own need and loss.
-pub record Plan (js : List Job) (b : ℕ) (r : Stair) : Type 0 where
-  pub need-is : r .its-need ≡ need js (r .periods) .0
-  pub loss-is : r .its-loss ≡ loss js (r .periods)
-  pub permitted : Permitted js (r .periods)
-  pub fits : r .its-need ≤ b
-
--- The rows are plans in order that lose less than the bound and come after none of the lists to come; with no row there is no bound.
-pub record Law (js : List Job) (b : ℕ) (rest : List (List Seconds)) (s : Stairs) : Type 0 where
-  pub ordered : Ordered s
-  pub plans : (r : Stair) → List·Memᴰ r (s .rows) → Plan js b r
-  pub not-after : (r : Stair) → List·Memᴰ r (s .rows) → (us : List Seconds) → List·Memᴰ us rest → NotAfter (r .periods) us
-  pub unbound : length (s .rows) ≡ 0 → s .bound ≡ noBound
-
--- Some row needs no more and loses no more than this list; on equal need and loss it comes not after it.
-pub record Served (js : List Job) (rows : List Stair) (us : List Seconds) : Type 0 where
-  pub by : Covering (need js us .0) (loss js us) rows
-  pub first : by .row .its-need ≡ need js us .0 → by .row .its-loss ≡ loss js us → NotAfter (by .row .periods) us
-
-abbrev pub Serves : List Job → ℕ → Stairs → List Seconds → Type 0
-Serves js b s us = need js us .0 ≤ b → loss js us < s .bound → Served js (s .rows) us
+use Rattle.table_climb.proofs.Ordered.{entered, Limited, enter-either}
 
 -- by the same row, among others
 pub still-served : {js : List Job} {rows : List Stair} (others : List Stair) {us : List Seconds} (a : Served js rows us) → List·Memᴰ (a .by .row) others → Served js others us
@@ -173,11 +152,6 @@ module _ (js : List Job) (most b : ℕ) (pos : 1 ≤ most) where
         serves = λ us m. ⊎-elim (λ e. subst (Serves js b after) (sym e) (all .serves-more x (one .here))) (all .serves us) (List·Memᴰ·cases-cons m);
         serves-more = λ us k. all .serves-more us (one .change .serves us k);
       }
-
--- The staircase: the law, and every permitted list that fits and loses less than the bound is served.
-pub record Collected (js : List Job) (b : ℕ) (s : Stairs) : Type 0 where
-  pub law : Law js b [] s
-  pub serves : (us : List Seconds) → Permitted js us → Serves js b s us
 
 -- the walk that collects
 pub walk-collects : (js : List Job) (most b : ℕ) → ValidJobs js → 1 ≤ most → Collected js b (walk (enter most b) js start noStairs)

@@ -17,8 +17,8 @@ use Rattle.model.proofs.Bounds.{job-loss-bound}
 use Rattle.walk.specs.Walk.{start, walk}
 use Rattle.table_stairs.specs.Stairs.{Stair, Stairs, noBound, noStairs, enter}
 use Rattle.table_climb.specs.Next.{Answer, NextAnswers, AnswersUnder}
-use Rattle.table_climb.proofs.Order.{Staircase}
-use Rattle.table_climb.proofs.Fold.{Plan, Served, still-served, Collected, walk-collects}
+use Rattle.table_climb.specs.Collected.{Staircase, Plan, Served, Collected}
+use Rattle.table_climb.proofs.Fold.{still-served, walk-collects}
 
 less-loss : {js : List Job} (ts us : List Seconds) → loss js ts < loss js us → NoWorse js ts us
 less-loss ts us h = record { loss-first = omega arith; need-next = λ e. absurd (omega arith); list-last = λ e d. absurd (omega arith) }

@@ -14,28 +14,12 @@ use lib.Dec.{ltb}
 use borrow.Author.Tests.{ltb-true, lt-ltb, le-ltb}
 use Rattle.model.specs.declared.Seconds.{Seconds}
 use Rattle.table_stairs.specs.Stairs.{Stair, stair, covered, losingLess, needingLess, among}
+use Rattle.table_climb.specs.Collected.{Above, Staircase}
+use Rattle.model.proofs.Lists.{rising-append}
 use Rattle.table_stairs.proofs.Updates.{covers}
-
--- The first row loses less and needs more.
-pub record Above (r s : Stair) : Type 0 where
-  pub loses : r .its-loss < s .its-loss
-  pub needs : s .its-need < r .its-need
 
 above-trans : {r s t : Stair} → Above r s → Above s t → Above r t
 above-trans h k = omega arith
-
--- Each row stands above every later one.
-abbrev pub Staircase : List Stair → Type 0
-Staircase [] = Unit {0}
-Staircase (r ∷ rows) = ((s : Stair) → List·Memᴰ s rows → Above r s) × Staircase rows
-
--- one staircase above another
-staircase-append : (xs ys : List Stair) → Staircase xs → Staircase ys → ((x y : Stair) → List·Memᴰ x xs → List·Memᴰ y ys → Above x y) → Staircase (xs ++ ys)
-staircase-append [] ys h k across = k
-staircase-append (x ∷ xs) ys h k across = (
-  λ y m. ⊎-elim (h .0 y) (λ n. across x y (List·Memᴰ·head refl) n) (List·Memᴰ·append-cases xs m),
-  staircase-append xs ys (h .1) k (λ a b m n. across a b (List·Memᴰ·tail m) n),
-)
 
 -- the rows in front that lose less are those rows that do
 module _ (l : ℕ) where
@@ -125,7 +109,7 @@ module _ (q l : ℕ) (ts : List Seconds) (rows : List Stair) (s : Staircase rows
 
   pub among-staircase : covered q l rows ≡ false → Staircase (among q l ts rows)
   unfolding among
-  among-staircase new = staircase-append (losingLess l rows) (stair q l ts ∷ needingLess q rows) (losing-staircase l rows s) (lower, needing-staircase q rows s) across
+  among-staircase new = rising-append Above (losingLess l rows) (stair q l ts ∷ needingLess q rows) (losing-staircase l rows s) (lower, needing-staircase q rows s) across
     where
       uncovered : {r : Stair} → List·Memᴰ r rows → r .its-need ≤ q → r .its-loss ≤ l → ⊥
       uncovered m n k = false≢true (sym new ∙ covers q l rows m n k)

@@ -12,14 +12,10 @@ use native.Mathlib.Nat.{le-refl, le-trans}
 use lib.ListN.{length, getD, length-take}
 use Rattle.model.specs.declared.Seconds.{Seconds}
 use Rattle.walk.proofs.Pageless.{Absorbs}
-use Rattle.table_stairs.specs.Stairs.{Stair, stair, Stairs, covered, losingLess, among, atMost, enter}
-use Rattle.table_stairs.proofs.Updates.{Covering, covering, covers, enter-over, enter-bound, enter-covered, enter-new, at-most-all, at-most-cut}
-use Rattle.table_climb.proofs.Order.{Staircase, losing-in, losing-has, losing-staircase, among-new, among-in, among-has, among-staircase, take-losing, cut-in}
-
--- The rows rise in loss, fall in need, and lose less than the bound.
-pub record Ordered (s : Stairs) : Type 0 where
-  pub order : Staircase (s .rows)
-  pub bounded : (r : Stair) → List·Memᴰ r (s .rows) → r .its-loss < s .bound
+use Rattle.table_stairs.specs.Stairs.{Stair, stair, Stairs, covered, Covering, losingLess, among, atMost, enter}
+use Rattle.table_climb.specs.Collected.{Ordered}
+use Rattle.table_stairs.proofs.Updates.{covering, covers, enter-over, enter-bound, enter-covered, enter-new, at-most-all, at-most-cut}
+use Rattle.table_climb.proofs.Order.{losing-in, losing-has, losing-staircase, among-new, among-in, among-has, among-staircase, take-losing, cut-in}
 
 -- What stands with a plan more, before the limit on the number of rows.
 abbrev pub entered : ℕ → ℕ → List Seconds → Stairs → Stairs

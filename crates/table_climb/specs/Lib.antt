@@ -1,2 +1,3 @@
 pub mod Next
+pub mod Collected
 pub mod Steps

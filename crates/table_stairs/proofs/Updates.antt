@@ -10,15 +10,8 @@ use lib.ListN.{length, getD, take}
 use lib.Dec.{leb}
 use borrow.Author.Tests.{leb-true, le-leb, lt-leb, lt-ltb, le-ltb}
 use Rattle.model.specs.declared.Seconds.{Seconds}
-use Rattle.table_stairs.specs.Stairs.{Stair, stair, Stairs, covered, among, atMost, enter}
-use Rattle.walk.proofs.Walk.{Keeps}
-
--- A row of at most this need and at most this loss.
-pub record Covering (q l : ℕ) (rows : List Stair) : Type 0 where
-  pub row : Stair
-  pub stands : List·Memᴰ row rows
-  pub needs : row .its-need ≤ q
-  pub loses : row .its-loss ≤ l
+use Rattle.table_stairs.specs.Stairs.{Stair, stair, Stairs, covered, Covering, among, atMost, enter}
+use Rattle.walk.specs.Laws.{Keeps}
 
 -- covered is: by such a row
 module _ (q l : ℕ) where

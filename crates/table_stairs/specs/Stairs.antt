@@ -1,8 +1,8 @@
 -- What a walk keeps that collects the next answers under a budget: a staircase of plans in rising loss and falling need, at
 -- most so many, and a bound on the loss of what may still enter. No public contract cites this. Assumes nothing.
-use mathlib.Core.List.{List, [], _∷_, _++_}
+use mathlib.Core.List.{List, [], _∷_, _++_, List·Memᴰ}
 use mathlib.Core.Bool.{Bool, false, not, cond, _&&_, _||_}
-use Prim.Native.Nat.{ℕ}
+use Prim.Native.Nat.{ℕ, _≤_}
 use lib.ListN.{length, getD, take}
 use lib.Dec.{leb, ltb}
 use Rattle.model.specs.declared.Seconds.{Seconds}
@@ -32,6 +32,13 @@ noStairs = record { rows = []; bound = noBound }
 unfoldable pub covered : ℕ → ℕ → List Stair → Bool
 covered q l [] = false
 covered q l (r ∷ rows) = (leb (r .its-need) q && leb (r .its-loss) l) || covered q l rows
+
+-- A row of at most this need and at most this loss.
+pub record Covering (q l : ℕ) (rows : List Stair) : Type 0 where
+  pub row : Stair
+  pub stands : List·Memᴰ row rows
+  pub needs : row .its-need ≤ q
+  pub loses : row .its-loss ≤ l
 
 -- The rows in front that lose less.
 unfoldable pub losingLess : ℕ → List Stair → List Stair

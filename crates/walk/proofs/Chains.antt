@@ -13,7 +13,8 @@ use Rattle.model.specs.Valid.{ValidJobs}
 use Rattle.model.proofs.Lists.{in-flat, flat-has}
 use Rattle.walk.specs.Chains.{firstTry, lastTry, climb, risingFrom, multiples, chainsBy, chains}
 use Rattle.model.proofs.Rounding.{round-up-le, round-up-above, multiple-is, split-product}
-use Rattle.walk.proofs.Sorted.{Sorted, RisingPeriods, sorted-flat}
+use Rattle.walk.specs.Laws.{Sorted, ListsAllowed}
+use Rattle.walk.proofs.Sorted.{RisingPeriods, sorted-flat}
 
 climb-in : (p t k : ℕ) {u : Seconds} → List·Memᴰ u (climb p t k) → (i : ℕ) × (i < k) × (u .0 ≡ t + i * p)
 unfolding climb
@@ -60,11 +61,6 @@ module _ (before last t : Seconds) (pos : 1 ≤ before .0) where
 pub rising-from : (before last t : Seconds) {u : Seconds} → List·Memᴰ u (risingFrom before last t) → t .0 ≤ u .0
 unfolding risingFrom
 rising-from before last t m = let r = climb-in (before .0) (t .0) _ m in omega arith
-
--- The list of a job's periods holds those that are allowed.
-pub record ListsAllowed (periods : Seconds → Job → List Seconds) : Type 0 where
-  pub only : {before : Seconds} {j : Job} {t : Seconds} → 1 ≤ before .0 → List·Memᴰ t (periods before j) → Allowed j before t
-  pub all : {before : Seconds} {j : Job} {t : Seconds} → 1 ≤ before .0 → Allowed j before t → List·Memᴰ t (periods before j)
 
 multiples-only : {before : Seconds} {j : Job} {t : Seconds} → 1 ≤ before .0 → List·Memᴰ t (multiples before j) → Allowed j before t
 unfolding multiples risingFrom

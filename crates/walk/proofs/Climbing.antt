@@ -2,7 +2,7 @@
 -- Assumes nothing.
 use mathlib.Core.Path.{_≡_, refl, sym, _∙_, ap, subst}
 use mathlib.Core.List.{List, [], _∷_, _++_, map}
-use Prim.Native.Nat.{ℕ, zero, suc, _+_, _*_, _-_, _/_, _%_, _≤_, _<_, zero-le}
+use Prim.Native.Nat.{ℕ, zero, suc, _+_, _*_, _/_, _%_, _≤_, _<_, zero-le}
 use native.Mathlib.Omega.{arith}
 use native.Mathlib.Numerals.{add-one}
 use native.Mathlib.Nat.{le-refl, le-trans, mul-mod-left, add-mod-right, mul-div-cancel, div-mul-le-self}
@@ -18,11 +18,11 @@ use Rattle.walk.specs.declared.Tries.{Tries}
 use Rattle.walk.specs.Walk.{node, next, walkBy, walk, walkFrom}
 use Rattle.walk.specs.Arrays.{HoldsJob, Held}
 use Rattle.walk.specs.Steps.{lossHeld, LossHeldFits, triesHeld, PassedOver, Repeats, Later, Ready, ReadyForCut, IsLossFloor, periodsIn, ChangesNothing, Walked}
+use Rattle.walk.specs.Laws.{Pageless, Keeps}
 use Rattle.model.proofs.Rounding.{round-up-above, round-up-some}
 use Rattle.walk.proofs.Bounds.{loss-floor-bound}
 use Rattle.walk.proofs.Chains.{multiples-lists}
-use Rattle.walk.proofs.Walk.{Keeps}
-use Rattle.walk.proofs.Pageless.{Pageless, Absorbs, SettledTo, settled-first, settled-more, settled-passes}
+use Rattle.walk.proofs.Pageless.{Absorbs, SettledTo, settled-first, settled-more, settled-passes}
 use Rattle.walk.proofs.Loops.{loop-opens, loop-takes, loop-ends, loop-left}
 use Rattle.walk.proofs.Held.{held-open, held-none, held-next, held-valid, job-loss-fits, job-loss-is}
 use Rattle.walk.proofs.Cuts.{ready-longest, next-ready}

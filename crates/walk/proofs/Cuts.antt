@@ -1,8 +1,8 @@
 -- The tests that cut a walk, as the code makes them on the numbers of the arrays: each shows that the walk would change nothing.
 -- Assumes nothing.
 use mathlib.Core.Path.{_≡_, ap}
-use mathlib.Core.List.{List, []}
-use Prim.Native.Nat.{ℕ, _+_, _*_, _/_, _%_, _≤_, _<_, zero-le}
+use mathlib.Core.List.{List}
+use Prim.Native.Nat.{ℕ, _+_, _*_, _/_, _%_, _≤_, _<_}
 use native.Mathlib.Omega.{arith}
 use native.Mathlib.Nat.{le-refl}
 use lib.ListN.{getD}
@@ -16,8 +16,9 @@ use Rattle.step.proofs.Bounds.{start-bounded, need-bound, next-bounded, bounded
 use Rattle.walk.specs.Walk.{needFloor, Node, node, walkBy}
 use Rattle.walk.specs.Arrays.{HoldsJob, Held}
 use Rattle.walk.specs.Steps.{MayTry, Ends, Unreached, Ready, ReadyForCut, ChangesNothing}
-use Rattle.walk.proofs.Chains.{ListsAllowed, multiples-lists}
-use Rattle.walk.proofs.Walk.{Keeps, walk-cut, walk-out-of-reach}
+use Rattle.walk.specs.Laws.{ListsAllowed, Keeps}
+use Rattle.walk.proofs.Chains.{multiples-lists}
+use Rattle.walk.proofs.Walk.{walk-cut, walk-out-of-reach}
 use Rattle.walk.proofs.Bounds.{least-needs-bound}
 use Rattle.walk.proofs.Held.{held-open, held-at, held-valid}
 

@@ -11,7 +11,7 @@ use Rattle.model.specs.declared.Job.{Job}
 use Rattle.model.specs.Model.{seconds, Allowed, roundUp}
 use Rattle.walk.specs.Chains.{firstTry, descend, fallingFrom, multiplesDown}
 use Rattle.model.proofs.Rounding.{round-up-le, round-up-above, multiple-is, split-product}
-use Rattle.walk.proofs.Chains.{ListsAllowed}
+use Rattle.walk.specs.Laws.{ListsAllowed}
 
 descend-in : (p t k : ℕ) {u : Seconds} → List·Memᴰ u (descend p t k) → (i : ℕ) × (i < k) × (u .0 ≡ t - i * p)
 unfolding descend

@@ -9,9 +9,10 @@ use Rattle.model.specs.Model.{seconds, jobLoss}
 use Rattle.model.specs.Valid.{ValidJobs}
 use Rattle.walk.specs.Chains.{firstTry, lastTry, multiples, multiplesDown}
 use Rattle.walk.specs.Walk.{lossFloor, visit, Node, next, walkBy, walk, walkDown, walkFrom, walkDownFrom}
+use Rattle.walk.specs.Laws.{Keeps}
 use Rattle.walk.proofs.Chains.{multiples-lists, rising-step, rising-end}
 use Rattle.walk.proofs.Falling.{falling-step, falling-end}
-use Rattle.walk.proofs.Walk.{Keeps, rising-cut}
+use Rattle.walk.proofs.Walk.{rising-cut}
 
 module _ {A : Type 0} (f : ℕ → ℕ → List Seconds → A → A) (j : Job) (js : List Job) (n : Node) where
   pub loop-opens : (acc : A) → walk f (j ∷ js) n acc ≡ walkFrom f j js n (firstTry (n .before) j) acc

@@ -17,7 +17,8 @@ use Rattle.walk.specs.Chains.{chainsBy}
 use Rattle.walk.specs.Walk.{visit, Node, next, walkBy}
 use Rattle.walk.specs.Steps.{PassedOver}
 use Rattle.model.proofs.Rounding.{round-up-le, round-up-above, multiple-is}
-use Rattle.walk.proofs.Chains.{ListsAllowed, chains-all}
+use Rattle.walk.specs.Laws.{ListsAllowed, Pageless, Unmoved, Settled}
+use Rattle.walk.proofs.Chains.{chains-all}
 use Rattle.step.proofs.Pages.{multiple-trans, quotient-trans}
 use Rattle.walk.proofs.Walk.{atPlan, walk-visits, walk-kept}
 
@@ -83,11 +84,6 @@ module _ (u t : Seconds) (pos : 1 ≤ u .0) (t-pos : 1 ≤ t .0) (multiple : t .
       let moved : pages * (t .0 / u .0) * (s .0 / t .0) ≡ pages * (s .0 / u .0) = mul-assoc pages (t .0 / u .0) (s .0 / t .0) ∙ ap (λ (x : ℕ). pages * x) (sym whole) in
       ap (λ (x : ℕ). roundUp (3600 * pagesAfter (x + load j) s js ts) (lastOf s ts .0)) moved
 
--- A job without pages, for need and for loss.
-pub record Pageless (j : Job) : Type 0 where
-  pub for-need : load j ≡ 0
-  pub for-loss : cost j ≡ 0
-
 -- without pages every period loses the same
 pub pageless-loss : (j : Job) (t u : Seconds) → cost j ≡ 0 → jobLoss j t ≡ jobLoss j u
 unfolding jobLoss rate
@@ -95,14 +91,6 @@ pageless-loss j t u none = ap (λ (x : ℕ). j .stiffness * (3600 * cost j / j .
   where
     idle : (x : ℕ) → 3600 * cost j / x ≡ 0
     idle x = ap (λ (c : ℕ). 3600 * c / x) none ∙ zero-div x
-
--- No plan of this need and this loss changes what is had.
-abbrev pub Unmoved : {A : Type 0} → (ℕ → ℕ → List Seconds → A → A) → A → ℕ → ℕ → Type 0
-Unmoved f s q l = (ts : List Seconds) → f q l ts s ≡ s
-
--- No plan that completes the node changes what is had, nor any of the same need and loss.
-abbrev pub Settled : {A : Type 0} → (ℕ → ℕ → List Seconds → A → A) → List Job → Node → A → Type 0
-Settled f js n s = (ts : List Seconds) → PermittedAfter (n .before) js ts → Unmoved f s (needAfter (n .pages) (n .before) js ts) (n .lost + loss js ts)
 
 -- An update that a plan's visit settles, whatever else is visited later: plans of the same need and loss change nothing more.
 -- It may ask that what is had be good, and keeps it so.

@@ -8,19 +8,12 @@ use native.Mathlib.Nat.{le-refl}
 use Rattle.model.specs.declared.Seconds.{Seconds}
 use Rattle.model.specs.Model.{Rising, NotAfter}
 use Rattle.model.proofs.Lists.{in-flat, rising-append}
+use Rattle.walk.specs.Laws.{Earlier, Sorted}
 
 -- no list comes after itself
 pub not-after-self : (ts : List Seconds) → NotAfter ts ts
 not-after-self [] = tt
 not-after-self (t ∷ ts) = (le-refl _, λ e. not-after-self ts)
-
--- strictly earlier in the order of lists
-pub record Earlier (ts us : List Seconds) : Type 0 where
-  pub not-after : NotAfter ts us
-  pub differ : ts ≡ us → ⊥
-
-abbrev pub Sorted : List (List Seconds) → Type 0
-Sorted xs = Rising Earlier xs
 
 -- strictly rising numbers
 abbrev pub RisingPeriods : List Seconds → Type 0

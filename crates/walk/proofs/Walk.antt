@@ -13,7 +13,8 @@ use Rattle.model.specs.Valid.{ValidJobs}
 use Rattle.step.specs.Step.{carried, pagesAfter, needAfter}
 use Rattle.walk.specs.Chains.{risingFrom, chainsBy}
 use Rattle.walk.specs.Walk.{lossFloor, needFloor, visit, Node, start, next, walkBy}
-use Rattle.walk.proofs.Chains.{ListsAllowed, chains-only, rising-from}
+use Rattle.walk.specs.Laws.{ListsAllowed, Keeps}
+use Rattle.walk.proofs.Chains.{chains-only, rising-from}
 use Rattle.step.proofs.Pages.{need-is}
 use Rattle.walk.proofs.Floors.{job-loss-mono, loss-floor-mono, loss-floor, need-floor, out-of-reach}
 
@@ -69,10 +70,6 @@ module _ {A : Type 0} (order : Seconds → Job → List Seconds) (f : ℕ → �
       let below : Seconds → List (List Seconds) = λ t. chainsBy order t js in
       visit-same acc ts (λ t m a. walk-visits js (next j n t) a ∙ visit-same a (below t) (λ us k b. plan-next j js n t us b) ∙ sym (visit-map (atPlan f (j ∷ js) n) (λ us. t ∷ us) a (below t)))
       ∙ sym (visit-flat (atPlan f (j ∷ js) n) (λ t. map (λ us. t ∷ us) (below t)) acc ts)
-
--- What the update has stands against every plan of at least this need and at least this loss.
-abbrev pub Keeps : {A : Type 0} → (ℕ → ℕ → List Seconds → A → A) → A → ℕ → ℕ → Type 0
-Keeps f acc k l = (q m : ℕ) (ts : List Seconds) → k ≤ q → l ≤ m → f q m ts acc ≡ acc
 
 module _ {order : Seconds → Job → List Seconds} (law : ListsAllowed order) {A : Type 0} (f : ℕ → ℕ → List Seconds → A → A) (acc : A) where
   module _ (js : List Job) (n : Node) (v : ValidJobs js) (pos : 1 ≤ n .before .0) where

@@ -2,3 +2,4 @@ pub mod Chains
 pub mod Walk
 pub mod Arrays
 pub mod Steps
+pub mod Laws

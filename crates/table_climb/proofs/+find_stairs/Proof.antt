@@ -5,7 +5,8 @@ use Rattle.walk.proofs.Cuts.{ready-more, ready-tries, ready-own, ready-need}
 use Rattle.table_stairs.specs.Stairs.{enter}
 use Rattle.table_stairs.specs.Rows.{most, stairsOf, Standing}
 use Rattle.table_stairs.proofs.Updates.{keeps-bound}
-use Rattle.table_climb.proofs.Ordered.{Ordered, enter-absorbs}
+use Rattle.table_climb.specs.Collected.{Ordered}
+use Rattle.table_climb.proofs.Ordered.{enter-absorbs}
 use Rattle.table_climb.proofs.Climbing.{standing-ordered, period-set}
 use Rattle.walk.proofs.Climbing.{Up, Turn, up-leaf, up-starts, up-done, up-place, up-to, up-loss-fits, up-later, up-first, up-cut, up-next, up-floor, up-left, up-pass, up-skip, up-turn}
 use borrow.Author.Needs.{needs}
