@@ -6,18 +6,18 @@ use Prim.Native.Nat.{ℕ, zero, suc, _+_, _*_, _-_, _/_, _≤_, _<_}
 use native.Mathlib.Omega.{arith}
 use native.Mathlib.Decide.{ℕ-discrete}
 use native.Mathlib.Nat.{sub-zero}
-use lib.ListN.{length, getD, set, replicate, length-set, getD-replicate}
+use lib.ListN.{length, getD, set, replicate, length-set, length-replicate, getD-replicate}
 use lib.Seq.{getD-set-same, getD-set-other}
 use Rattle.model.specs.declared.PagesPerHour.{PagesPerHour}
 use Rattle.model.specs.declared.Job.{Job}
 use Rattle.model.specs.declared.Profile.{Profile}
-use Rattle.model.specs.Model.{noJob, entries, jobsOf, load, cost, rate}
+use Rattle.model.specs.Model.{noJob, entries, jobsOf, load}
 use Rattle.model.specs.Most.{mostNeed}
 use Rattle.model.specs.Valid.{ValidJob, ValidJobs, Valid}
 use Rattle.model.proofs.Entries.{entries-step, entries-end}
 use Rattle.step.specs.Step.{hourly}
 use Rattle.walk.specs.Walk.{leastNeeds}
-use Rattle.walk.specs.Arrays.{HoldsJob, HoldsJobs, Held, jobAt, Filled, first, second, SpansFrom, PagesFrom, needsFrom, RatesFrom, StiffnessesFrom}
+use Rattle.walk.specs.Arrays.{HoldsJob, HoldsJobs, Held, jobAt, Filled, first, second, Halves, SpansFrom, PagesFrom, needsFrom, RatesFrom, StiffnessesFrom}
 use Rattle.walk.proofs.Bounds.{least-needs-bound}
 
 -- one entry more, in front
@@ -75,17 +75,15 @@ module _ {p : Profile} (v : Valid p) where
       let n≤ = v .n-to in
       omega arith
 
-  pub spans-none : SpansFrom p (p .n) (replicate 16 0)
-  spans-none = record { size = refl; shortest = λ m from less. absurd (omega arith); longest = λ m from less. absurd (omega arith) }
-
-  pub pages-none : PagesFrom p (p .n) (replicate 16 0)
-  pages-none = record { size = refl; for-need = λ m from less. absurd (omega arith); for-loss = λ m from less. absurd (omega arith) }
+  -- nothing is in yet
+  pub halves-none : (many : ℕ) {f g : ℕ → ℕ} → Halves many f g (p .n) (p .n) (p .n) (replicate many 0)
+  halves-none many = record { size = length-replicate many 0; front = λ m from less. absurd (omega arith); back = λ m from less. absurd (omega arith) }
 
   pub stiffnesses-none : StiffnessesFrom p (p .n) (replicate 8 0)
   stiffnesses-none = record { size = refl; stiff = λ m from less. absurd (omega arith) }
 
   pub rates-none : RatesFrom p (p .n) (replicate 17 0)
-  rates-none = record { size = refl; fastest = λ m from less. absurd (omega arith); needs = last }
+  rates-none = record { size = refl; front = λ m from less. absurd (omega arith); back = last }
     where
       last : Filled second (needsFrom p) (p .n) (p .n + 1) (replicate 17 0)
       last k from less =
@@ -94,31 +92,20 @@ module _ {p : Profile} (v : Valid p) where
           getD-replicate 17 (8 + k) 0 0 (omega arith) ∙ sym (ap (needsFrom p) is ∙ needs-none p)
 
   module _ (k : ℕ) (pos : 0 < k) (to : k ≤ p .n) where
-    -- two halves, one entry more in each
-    both-more : (f g : ℕ → ℕ) {end : ℕ} (xs : List ℕ) (a b : ℕ) → 16 ≤ length xs → a ≡ f (k - 1) → b ≡ g (k - 1) → Filled first f k (p .n) xs → Filled second g k end xs →
-        Filled first f (k - 1) (p .n) (set (set xs (k - 1) a) (8 + (k - 1)) b) × Filled second g (k - 1) end (set (set xs (k - 1) a) (8 + (k - 1)) b)
-    both-more f g {end} xs a b room is-a is-b h i =
+    -- one entry more in each half
+    pub halves-more : {many : ℕ} {f g : ℕ → ℕ} {end : ℕ} {xs : List ℕ} {a b : ℕ} → 16 ≤ many → a ≡ f (k - 1) → b ≡ g (k - 1) → Halves many f g (p .n) end k xs →
+        Halves many f g (p .n) end (k - 1) (set (set xs (k - 1) a) (8 + (k - 1)) b)
+    halves-more {many} {f} {g} {end} {xs} {a} {b} room is-a is-b h =
         let n≤ = v .n-to in
         let one = set xs (k - 1) a in
-        let size₁ : length one ≡ length xs = length-set xs (k - 1) a in
-        let h₁ : Filled first f (k - 1) (p .n) one = filled-more first f xs a (λ m on. omega arith) (omega arith) is-a h in
-        let i₁ : Filled second g k end one = kept one refl in
-        (filled-kept first f one (8 + (k - 1)) b (λ m less. omega arith) h₁, filled-more second g one b (λ m on. omega arith) (omega arith) is-b i₁)
-      where
-        kept : (ys : List ℕ) → ys ≡ set xs (k - 1) a → Filled second g k end ys
-        kept ys e m from less = let n≤ = v .n-to in rw e (getD-set-other xs (k - 1) (8 + m) a 0 (λ d. omega arith) ∙ i m from less)
-
-    pub spans-more : {xs : List ℕ} → SpansFrom p k xs → SpansFrom p (k - 1) (set (set xs (k - 1) (jobAt p (k - 1) .lo .0)) (8 + (k - 1)) (jobAt p (k - 1) .hi .0))
-    spans-more {xs} s =
-        let size = s .size in
-        let b = both-more _ _ xs (jobAt p (k - 1) .lo .0) (jobAt p (k - 1) .hi .0) (omega arith) refl refl (s .shortest) (s .longest) in
-        record { size = length-set (set xs (k - 1) (jobAt p (k - 1) .lo .0)) (8 + (k - 1)) (jobAt p (k - 1) .hi .0) ∙ length-set xs (k - 1) (jobAt p (k - 1) .lo .0) ∙ size; shortest = b .0; longest = b .1 }
-
-    pub pages-more : {xs : List ℕ} (x y : ℕ) → x ≡ load (jobAt p (k - 1)) → y ≡ cost (jobAt p (k - 1)) → PagesFrom p k xs → PagesFrom p (k - 1) (set (set xs (k - 1) x) (8 + (k - 1)) y)
-    pages-more {xs} x y is-x is-y s =
-        let size = s .size in
-        let b = both-more _ _ xs x y (omega arith) is-x is-y (s .for-need) (s .for-loss) in
-        record { size = length-set (set xs (k - 1) x) (8 + (k - 1)) y ∙ length-set xs (k - 1) x ∙ size; for-need = b .0; for-loss = b .1 }
+        let size₁ : length one ≡ many = length-set xs (k - 1) a ∙ h .size in
+        let front₁ : Filled first f (k - 1) (p .n) one = filled-more first f xs a (λ m on. omega arith) (omega (arith, h .size)) is-a (h .front) in
+        let back₁ : Filled second g k end one = λ m from less. getD-set-other xs (k - 1) (8 + m) a 0 (λ d. omega arith) ∙ h .back m from less in
+        record {
+          size = length-set one (8 + (k - 1)) b ∙ size₁;
+          front = filled-kept first f one (8 + (k - 1)) b (λ m less. omega arith) front₁;
+          back = filled-more second g one b (λ m on. omega arith) (omega arith) is-b back₁;
+        }
 
     pub stiffnesses-more : {xs : List ℕ} → StiffnessesFrom p k xs → StiffnessesFrom p (k - 1) (set xs (k - 1) (jobAt p (k - 1) .stiffness))
     stiffnesses-more {xs} s =
@@ -132,12 +119,6 @@ module _ {p : Profile} (v : Valid p) where
       needs-more =
           let least = is-slow ∙ ap (λ (x : ℕ). hourly x (jobAt p (k - 1) .hi)) is-own in
           ap₂ (λ (a : PagesPerHour) (b : ℕ). a .0 + b) least had ∙ sym (needs-step p k pos to)
-
-      pub rates-more : {fast : PagesPerHour} {xs : List ℕ} → fast ≡ rate (jobAt p (k - 1)) (jobAt p (k - 1) .lo) → RatesFrom p k xs → RatesFrom p (k - 1) (set (set xs (k - 1) (fast .0)) (8 + (k - 1)) (slow .0 + needs))
-      rates-more {fast} {xs} is-fast s =
-          let size = s .size in
-          let b = both-more _ _ xs (fast .0) (slow .0 + needs) (omega arith) (ap (λ (r : PagesPerHour). r .0) is-fast) needs-more (s .fastest) (s .needs) in
-          record { size = length-set (set xs (k - 1) (fast .0)) (8 + (k - 1)) (slow .0 + needs) ∙ length-set xs (k - 1) (fast .0) ∙ size; fastest = b .0; needs = b .1 }
 
   -- all four arrays together hold the jobs
   module _ {spans pages rates stiffnesses : List ℕ} (s : SpansFrom p 0 spans) (g : PagesFrom p 0 pages) (r : RatesFrom p 0 rates) (w : StiffnessesFrom p 0 stiffnesses) where
@@ -155,12 +136,12 @@ module _ {p : Profile} (v : Valid p) where
             let from : 0 ≤ i = omega arith in
             record {
               valid = valid-at i less;
-              shortest = s .shortest i from less;
-              longest = s .longest i from less;
-              for-need = g .for-need i from less;
-              for-loss = g .for-loss i from less;
-              fastest = r .fastest i from less;
-              later = r .needs (i + 1) (omega arith) (omega arith) ∙ ap (λ (x : ℕ). leastNeeds (entries noJob (p .jobs) (i + 1) x)) rest;
+              shortest = s .front i from less;
+              longest = s .back i from less;
+              for-need = g .front i from less;
+              for-loss = g .back i from less;
+              fastest = r .front i from less;
+              later = r .back (i + 1) (omega arith) (omega arith) ∙ ap (λ (x : ℕ). leastNeeds (entries noJob (p .jobs) (i + 1) x)) rest;
               stiff = w .stiff i from less;
             }
 
@@ -170,6 +151,6 @@ module _ {p : Profile} (v : Valid p) where
         record {
           count = omega arith;
           most = v .n-to;
-          needs = r .needs 0 (omega arith) (omega arith) ∙ ap (λ (x : ℕ). leastNeeds (entries noJob (p .jobs) 0 x)) (sub-zero (p .n));
+          needs = r .back 0 (omega arith) (omega arith) ∙ ap (λ (x : ℕ). leastNeeds (entries noJob (p .jobs) 0 x)) (sub-zero (p .n));
           jobs = holds-from (p .n) 0 (omega arith);
         }

@@ -25,25 +25,27 @@ first k = k
 abbrev pub second : ℕ → ℕ
 second k = 8 + k
 
--- The four arrays of a profile, as far as they are made when jobs from place k on are in.
-pub record SpansFrom (p : Profile) (k : ℕ) (xs : List ℕ) : Type 0 where
-  pub size : length xs ≡ 16
-  pub shortest : Filled first (λ m. jobAt p m .lo .0) k (p .n) xs
-  pub longest : Filled second (λ m. jobAt p m .hi .0) k (p .n) xs
+-- An array of so many numbers, as far as it is made: from place k on to n those of f, and eight places behind, to `end`, those of g.
+pub record Halves (many : ℕ) (f g : ℕ → ℕ) (n end k : ℕ) (xs : List ℕ) : Type 0 where
+  pub size : length xs ≡ many
+  pub front : Filled first f k n xs
+  pub back : Filled second g k end xs
 
-pub record PagesFrom (p : Profile) (k : ℕ) (xs : List ℕ) : Type 0 where
-  pub size : length xs ≡ 16
-  pub for-need : Filled first (λ m. load (jobAt p m)) k (p .n) xs
-  pub for-loss : Filled second (λ m. cost (jobAt p m)) k (p .n) xs
+-- The four arrays of a profile, as far as they are made when jobs from place k on are in. The shortest periods, then the longest.
+abbrev pub SpansFrom : Profile → ℕ → List ℕ → Type 0
+SpansFrom p k xs = Halves 16 (λ m. jobAt p m .lo .0) (λ m. jobAt p m .hi .0) (p .n) (p .n) k xs
+
+-- The pages for need, then those for loss.
+abbrev pub PagesFrom : Profile → ℕ → List ℕ → Type 0
+PagesFrom p k xs = Halves 16 (λ m. load (jobAt p m)) (λ m. cost (jobAt p m)) (p .n) (p .n) k xs
 
 -- What the jobs from place k on need at least.
 abbrev pub needsFrom : Profile → ℕ → ℕ
 needsFrom p k = leastNeeds (entries noJob (p .jobs) k (p .n - k))
 
-pub record RatesFrom (p : Profile) (k : ℕ) (xs : List ℕ) : Type 0 where
-  pub size : length xs ≡ 17
-  pub fastest : Filled first (λ m. rate (jobAt p m) (jobAt p m .lo) .0) k (p .n) xs
-  pub needs : Filled second (needsFrom p) k (p .n + 1) xs
+-- The rates at the shortest periods, then what the jobs from each place on need at least, past the last one too.
+abbrev pub RatesFrom : Profile → ℕ → List ℕ → Type 0
+RatesFrom p k xs = Halves 17 (λ m. rate (jobAt p m) (jobAt p m .lo) .0) (needsFrom p) (p .n) (p .n + 1) k xs
 
 pub record StiffnessesFrom (p : Profile) (k : ℕ) (xs : List ℕ) : Type 0 where
   pub size : length xs ≡ 8

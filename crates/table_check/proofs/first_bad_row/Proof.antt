@@ -117,7 +117,7 @@ loss-with-requires : tie.Need-loss-with-requires Inv-loop μ-loop Inv-rows μ-ro
 loss-with-requires c κs =
     let e = c .before .before .before .before in
     let l = e .before .before .before in
-    (job-valid-at _ (l .loop .i) (valid l) (e .if2 .left), allowed _ (l .loop .before) _ (passed (c .before)) .above, ap pagesPerHour (l .before .before .before .before .before .before .rates-of .ensures .fastest (l .loop .i) zero-le (e .if2 .left)))
+    (job-valid-at _ (l .loop .i) (valid l) (e .if2 .left), allowed _ (l .loop .before) _ (passed (c .before)) .above, ap pagesPerHour (l .before .before .before .before .before .before .rates-of .ensures .front (l .loop .i) zero-le (e .if2 .left)))
 
 add-lost : tie.Need-add-lost Inv-loop μ-loop Inv-rows μ-rows
 add-lost c =

@@ -1,13 +1,14 @@
 -- `walk::rates_of` meets its contract: before each turn the jobs from place k on are in, and the sum is what they need at least.
 -- Assumes nothing.
-use mathlib.Core.Path.{_≡_, sym}
+use mathlib.Core.Path.{_≡_, sym, ap}
 use mathlib.Core.List.{List}
 use Prim.Native.Nat.{ℕ, _+_, _-_, _≤_}
+use Rattle.model.specs.declared.PagesPerHour.{PagesPerHour}
 use Rattle.model.specs.declared.Profile.{Profile}
 use Rattle.model.specs.Valid.{ValidJob}
 use Rattle.model.proofs.Bounds.{load-bound}
 use Rattle.walk.specs.Arrays.{jobAt, needsFrom, RatesFrom}
-use Rattle.walk.proofs.Filled.{valid-at, needs-to, needs-none, needs-more, rates-none, rates-more}
+use Rattle.walk.proofs.Filled.{valid-at, needs-to, needs-none, needs-more, rates-none, halves-more}
 use borrow.Author.Needs.{needs}
 use native.Mathlib.Omega.{arith}
 use Rattle.walk.proofs.rates_of.Statement.{statement}
@@ -63,7 +64,9 @@ hourly-rate-requires c κs =
     rw (c .need-pages .ensures) (load-bound _ v, omega (arith, v .lo-from, v .lo-to))
 
 -- what the jobs from this one on need at least
-more : (c : tie.After-hourly-rate Inv-loop μ-loop) → c .hourly-rate .result .0 + c .before .before .before .before .before .loop .needs ≡ needsFrom (c .before .before .before .before .before .before .args .t1) (c .before .before .before .before .before .loop .k - 1)
+more : (c : tie.After-hourly-rate Inv-loop μ-loop) →
+    let turn = c .before .before .before .before .before in
+    c .hourly-rate .result .0 + turn .loop .needs ≡ needsFrom (turn .before .args .t1) (turn .loop .k - 1)
 more c =
     let i = c .before .before .before .before in
     let l = i .before .loop in
@@ -93,14 +96,9 @@ loop-again c =
     let i = c .before .before .before .before .before in
     let l = i .before .loop in
     let pos = i .loop-test .taken in
-    let fast = c .before .before .before .fastest-rate .ensures in
-    let own = c .before .before .need-pages .ensures in
-    let slow = c .before .hourly-rate .ensures in
-    record {
-      upto = omega arith;
-      sum = more (c .before);
-      held = rates-more (i .before .before .pre) (l .k) pos (l .inv .upto) own slow (l .inv .sum) fast (l .inv .held);
-    }
+    let fast = ap (λ (r : PagesPerHour). r .0) (c .before .before .before .fastest-rate .ensures) in
+    let least = more (c .before) in
+    record { upto = omega arith; sum = least; held = halves-more (i .before .before .pre) (l .k) pos (l .inv .upto) (omega arith) fast least (l .inv .held) }
 
 returns : tie.Need-returns Inv-loop μ-loop
 returns c =

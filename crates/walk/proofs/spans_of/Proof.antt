@@ -1,9 +1,9 @@
 -- `walk::spans_of` meets its contract: before each turn the jobs from place k on are in.
 -- Assumes nothing.
-use mathlib.Core.Path.{_≡_}
+use mathlib.Core.Path.{_≡_, refl}
 use Prim.Native.Nat.{_≤_}
 use Rattle.walk.specs.Arrays.{SpansFrom}
-use Rattle.walk.proofs.Filled.{spans-none, spans-more}
+use Rattle.walk.proofs.Filled.{halves-none, halves-more}
 use borrow.Author.Needs.{needs}
 use native.Mathlib.Omega.{arith}
 use Rattle.walk.proofs.spans_of.Statement.{statement}
@@ -19,7 +19,7 @@ cast-k : tie.Need-cast-k Inv-loop μ-loop
 cast-k c = search needs
 
 loop-holds : tie.Need-loop-holds Inv-loop μ-loop
-loop-holds c = (omega arith, spans-none (c .pre))
+loop-holds c = (omega arith, halves-none (c .pre) 16)
 
 sub-k : tie.Need-sub-k Inv-loop μ-loop
 sub-k c = search needs
@@ -53,7 +53,7 @@ loop-again c =
     let l = c .before .before .loop in
     let s = c .before .before .before in
     let pos = c .before .loop-test .taken in
-    (omega arith, spans-more (s .pre) (l .k) pos (l .inv .0) (l .inv .1))
+    (omega arith, halves-more (s .pre) (l .k) pos (l .inv .0) (omega arith) refl refl (l .inv .1))
 
 returns : tie.Need-returns Inv-loop μ-loop
 returns c =
