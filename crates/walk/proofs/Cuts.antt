@@ -84,6 +84,10 @@ module _ {spans pages rates stiffnesses : List ℕ} {i n : ℕ} where
         let b = least-needs-bound (r .js) (held-valid (r .js) (r .held)) in
         omega arith
 
+    -- what a whole plan is asked for
+    pub ready-plan : NeedFits written t × (lost ≤ mostLoss * 8)
+    ready-plan = (ready-need, omega (arith, r .bounded .lost-to, r .held .count, r .held .most))
+
     -- what the need floor asks
     pub ready-floor : (i ≤ 8) × (NeedFits written t × (needAt written t + getD rates (8 + i) 0 ≤ mostNeed))
     ready-floor = (place-to, (ready-need, need-floor-to))

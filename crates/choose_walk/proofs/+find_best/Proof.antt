@@ -6,10 +6,11 @@ use mathlib.Core.List.{List}
 use lib.ListN.{set, length-set}
 use Rattle.choose_offer.specs.Found.{pick}
 use Rattle.choose_offer.specs.Steps.{foundIn, Sizes}
-use Rattle.walk.proofs.Cuts.{ready-more, ready-tries, ready-own, ready-need}
+use Rattle.walk.proofs.Cuts.{ready-more, ready-tries, ready-plan}
 use Rattle.choose_offer.proofs.Updates.{AnyFound, pick-absorbs}
 use Rattle.choose_offer.proofs.Winning.{more-loss-kept}
-use Rattle.walk.proofs.Climbing.{Up, Turn, up-leaf, up-starts, up-done, up-place, up-to, up-loss-fits, up-later, up-first, up-cut, up-next, up-floor, up-left, up-pass, up-skip, up-turn}
+use Rattle.walk.proofs.Climbing.{Up, Turn, up-leaf, up-starts, up-done, up-place, up-next-to, up-falls}
+use Rattle.walk.proofs.Climbing.{up-loss-fits, up-later, up-first, up-carry, up-cut, up-floor, up-left, up-pass, up-skip, up-next, up-turn}
 use borrow.Author.Needs.{needs}
 use native.Mathlib.Omega.{arith}
 use borrow.Fn.Kinds.{In}
@@ -71,8 +72,8 @@ size-set {ps = ps} i x z = record { count = z .count; periods-size = length-set 
 offer-requires : (t : ℕ) → find-best-lts.Need-offer-requires (claims t) (given t) find-best.Post Inv-loop μ-loop
 offer-requires t c κs =
     let s = c .before .before .before in
-    let r = s .pre .1 .0 in
-    (ready-need r, (omega (arith, r .bounded .lost-to, r .held .count, r .held .most), s .pre .1 .1))
+    let fits = ready-plan (s .pre .1 .0) in
+    (fits .0, (omega (arith, fits .1), s .pre .1 .1))
 
 returns : (t : ℕ) → find-best-lts.Need-returns (claims t) (given t) find-best.Post Inv-loop μ-loop
 returns t c =
@@ -96,9 +97,10 @@ loop-holds t c =
 abbrev Known : (t : ℕ) → find-best-lts.Then2 (claims t) (given t) find-best.Post Inv-loop μ-loop → Type 0
 Known t c =
     let l = c .before .before .before .loop in
-    let a = c .before .before .before .before .before .before .before .args in
-    Turn AnyFound (pick (a .budget .0)) (a .spans .now) (a .pages .now) (a .rates .now) (a .stiffnesses .now) (a .i) (a .n) (a .step)
-    (a .written) (a .lost) (a .periods .now) (foundIn (a .n) (a .best .now)) (l .periods) (foundIn (a .n) (l .best)) (l .t)
+    let tried = c .before .before .before .before .before in
+    let a = tried .before .before .args in
+    Turn (pick (a .budget .0)) (a .spans .now) (a .pages .now) (a .rates .now) (a .stiffnesses .now) (a .i) (a .n) (a .step) (a .written) (a .lost)
+    AnyFound (tried .to-try .result) (a .periods .now) (foundIn (a .n) (a .best .now)) (l .periods) (foundIn (a .n) (l .best)) (l .t)
 
 facts : (t : ℕ) (c : find-best-lts.Then2 (claims t) (given t) find-best.Post Inv-loop μ-loop) → Known t c
 facts t c =
@@ -107,16 +109,15 @@ facts t c =
     record {
       ready = r;
       less = ready-more r (tried .before .if1 .left);
+      told = tried .to-try .ensures;
       up = c .before .before .before .loop .inv .1;
-      on = rw (tried .to-try .ensures) at (c .if2 .taken);
+      on = c .if2 .taken;
       absorbs = pick-absorbs _;
       good = tt;
     }
 
 lost-with-requires : (t : ℕ) → find-best-lts.Need-lost-with-requires (claims t) (given t) find-best.Post Inv-loop μ-loop
-lost-with-requires t c κs =
-    let u = facts t c in
-    (up-place u, (u .ready .bounded .lost-to, up-loss-fits u))
+lost-with-requires t c κs = up-loss-fits (facts t c)
 
 add-loss-floor : (t : ℕ) → find-best-lts.Need-add-loss-floor (claims t) (given t) find-best.Post Inv-loop μ-loop
 add-loss-floor t c = search needs
@@ -125,9 +126,7 @@ loss-floor-requires : (t : ℕ) → find-best-lts.Need-loss-floor-requires (clai
 loss-floor-requires t c κs = up-later (facts t (c .before))
 
 add-floor : (t : ℕ) → find-best-lts.Need-add-floor (claims t) (given t) find-best.Post Inv-loop μ-loop
-add-floor t c =
-    let u = facts t (c .before .before) in
-    omega (arith, up-floor u (c .before .lost-with .ensures) (c .loss-floor .ensures))
+add-floor t c = omega (arith, up-floor (facts t (c .before .before)) (c .before .lost-with .ensures) (c .loss-floor .ensures))
 
 element-copy-out-if3 : (t : ℕ) → find-best-lts.Need-element-copy-out-if3 (claims t) (given t) find-best.Post Inv-loop μ-loop
 element-copy-out-if3 t c = search needs
@@ -143,109 +142,75 @@ returns-2 t c =
     record { sizes = l .inv .0; walked = up-left u own low (more-loss-kept _ _ (l .best) (omega (arith, c .if3 .taken)) (omega arith)) }
 
 add-carry : (t : ℕ) → find-best-lts.Need-add-carry (claims t) (given t) find-best.Post Inv-loop μ-loop
-add-carry t c =
-    let u = facts t (c .before .before .before .before .before .before) in
-    omega (arith, up-to u, u .ready .to)
+add-carry t c = omega (arith, up-next-to (facts t (c .before .before .before .before .before .before)))
 
 repeats-requires : (t : ℕ) → find-best-lts.Need-repeats-requires (claims t) (given t) find-best.Post Inv-loop μ-loop
-repeats-requires t c κs =
-    let turn = c .before .before .before .before .before .before in
-    let u = facts t turn in
-    (up-place u, (u .ready .from, rw (turn .before .before .before .before .before .to-try .ensures) (up-first u)))
+repeats-requires t c κs = up-first (facts t (c .before .before .before .before .before .before))
 
 loop-less : (t : ℕ) → find-best-lts.Need-loop-less (claims t) (given t) find-best.Post Inv-loop μ-loop
-loop-less t c =
-    let turn = c .before .before .before .before .before .before .before .before in
-    omega (arith, turn .if2 .taken, facts t turn .ready .from)
+loop-less t c = up-falls (facts t (c .before .before .before .before .before .before .before .before))
 
 loop-again : (t : ℕ) → find-best-lts.Need-loop-again (claims t) (given t) find-best.Post Inv-loop μ-loop
 loop-again t c =
     let turn = c .before .before .before .before .before .before .before .before in
-    let passed = rw (turn .before .before .before .before .before .to-try .ensures) at (c .before .repeats .ensures (c .if4 .taken)) in
-    (turn .before .before .before .loop .inv .0, up-pass (facts t turn) passed)
+    (turn .before .before .before .loop .inv .0, up-pass (facts t turn) (c .before .repeats .ensures (c .if4 .taken)))
 
 mul-carry : (t : ℕ) → find-best-lts.Need-mul-carry (claims t) (given t) find-best.Post Inv-loop μ-loop
-mul-carry t c =
-    let u = facts t (c .before .before .before .before .before .before .before .before) in
-    omega (arith, up-place u)
+mul-carry t c = omega (arith, up-place (facts t (c .before .before .before .before .before .before .before .before)))
 
 element-copy-out-carry : (t : ℕ) → find-best-lts.Need-element-copy-out-carry (claims t) (given t) find-best.Post Inv-loop μ-loop
-element-copy-out-carry t c =
-    let u = facts t (c .before .before .before .before .before .before .before .before) in
-    omega (arith, up-place u)
+element-copy-out-carry t c = omega (arith, up-place (facts t (c .before .before .before .before .before .before .before .before)))
 
 carry-requires : (t : ℕ) → find-best-lts.Need-carry-requires (claims t) (given t) find-best.Post Inv-loop μ-loop
-carry-requires t c κs =
-    let u = facts t (c .before .before .before .before .before .before .before .before .before) in
-    (ready-need (u .ready), up-to u, ready-own (u .ready) (u .less))
+carry-requires t c κs = up-carry (facts t (c .before .before .before .before .before .before .before .before .before))
 
 add-may-win : (t : ℕ) → find-best-lts.Need-add-may-win (claims t) (given t) find-best.Post Inv-loop μ-loop
-add-may-win t c =
-    let u = facts t (c .before .before .before .before .before .before .before .before .before .before) in
-    omega (arith, up-place u)
+add-may-win t c = omega (arith, up-place (facts t (c .before .before .before .before .before .before .before .before .before .before)))
 
 may-win-requires : (t : ℕ) → find-best-lts.Need-may-win-requires (claims t) (given t) find-best.Post Inv-loop μ-loop
 may-win-requires t c κs =
     let floor = c .before .before .before .before .before .before .before .before .before in
-    let turn = floor .before .before in
-    let u = facts t turn in
-    (rw (c .before .carry .ensures) (up-cut u), omega (arith, up-floor u (floor .before .lost-with .ensures) (floor .loss-floor .ensures)))
+    let u = facts t (floor .before .before) in
+    (up-cut u (c .before .carry .ensures), omega (arith, up-floor u (floor .before .lost-with .ensures) (floor .loss-floor .ensures)))
 
 mul-periods : (t : ℕ) → find-best-lts.Need-mul-periods (claims t) (given t) find-best.Post Inv-loop μ-loop
-mul-periods t c =
-    let u = facts t (c .before .before .before .before .before .before .before .before .before .before .before .before .before) in
-    omega (arith, up-place u)
+mul-periods t c = omega (arith, up-place (facts t (c .before .before .before .before .before .before .before .before .before .before .before .before .before)))
 
 element-write-periods : (t : ℕ) → find-best-lts.Need-element-write-periods (claims t) (given t) find-best.Post Inv-loop μ-loop
-element-write-periods t c =
-    let u = facts t (c .before .before .before .before .before .before .before .before .before .before .before .before .before) in
-    omega (arith, up-place u)
+element-write-periods t c = omega (arith, up-place (facts t (c .before .before .before .before .before .before .before .before .before .before .before .before .before)))
 
 add-find-best : (t : ℕ) → find-best-lts.Need-add-find-best (claims t) (given t) find-best.Post Inv-loop μ-loop
-add-find-best t c =
-    let u = facts t (c .before .before .before .before .before .before .before .before .before .before .before .before .before) in
-    omega (arith, up-place u)
+add-find-best t c = omega (arith, up-place (facts t (c .before .before .before .before .before .before .before .before .before .before .before .before .before)))
 
 find-best-requires : (t : ℕ) → find-best-lts.Need-find-best-requires (claims t) (given t) find-best.Post Inv-loop μ-loop
 find-best-requires t c κs =
     let floor = c .before .before .before .before .before .before .before .before .before .before .before .before .before in
-    let turn = floor .before .before in
-    let u = facts t turn in
-    let l = turn .before .before .before in
-    let s = l .before .before .before .before in (
-      omega (arith, u .less, s .pre .0),
-      (
-        rw (c .before .before .before .before .before .carry .ensures) (up-next u (floor .before .lost-with .ensures)),
-        size-set (s .args .i) (l .loop .t .0) (l .loop .inv .0),
-      ),
-    )
+    let u = facts t (floor .before .before) in
+    let l = floor .before .before .before .before .before in
+    let s = l .before .before .before .before in
+    let ready = up-next u (floor .before .lost-with .ensures) (c .before .before .before .before .before .carry .ensures) in
+    (omega (arith, u .less, s .pre .0), (ready, size-set (s .args .i) (l .loop .t .0) (l .loop .inv .0)))
 
 loop-less-2 : (t : ℕ) → find-best-lts.Need-loop-less-2 (claims t) (given t) find-best.Post Inv-loop μ-loop
-loop-less-2 t c =
-    let turn = c .before .before .before .before .before .before .before .before .before .before .before .before .before .before .before .before in
-    omega (arith, turn .if2 .taken, facts t turn .ready .from)
+loop-less-2 t c = up-falls (facts t (c .before .before .before .before .before .before .before .before .before .before .before .before .before .before .before .before))
 
 loop-again-2 : (t : ℕ) → find-best-lts.Need-loop-again-2 (claims t) (given t) find-best.Post Inv-loop μ-loop
 loop-again-2 t c =
     let floor = c .before .before .before .before .before .before .before .before .before .before .before .before .before .before in
     let turn = floor .before .before in
-    let u = facts t turn in
     let w = c .find-best .ensures in
-    let walked = rw (c .before .before .before .before .before .before .carry .ensures) at (w .walked) in
-    (w .sizes, up-turn u (floor .before .lost-with .ensures) (turn .before .before .before .loop .inv .0 .periods-size) walked)
+    let z = turn .before .before .before .loop .inv .0 in
+    (w .sizes, up-turn (facts t turn) (floor .before .lost-with .ensures) (c .before .before .before .before .before .before .carry .ensures) (z .periods-size) (w .walked))
 
 loop-less-3 : (t : ℕ) → find-best-lts.Need-loop-less-3 (claims t) (given t) find-best.Post Inv-loop μ-loop
-loop-less-3 t c =
-    let turn = c .before .before .before .before .before .before .before .before .before .before .before .before .before in
-    omega (arith, turn .if2 .taken, facts t turn .ready .from)
+loop-less-3 t c = up-falls (facts t (c .before .before .before .before .before .before .before .before .before .before .before .before .before))
 
 loop-again-3 : (t : ℕ) → find-best-lts.Need-loop-again-3 (claims t) (given t) find-best.Post Inv-loop μ-loop
 loop-again-3 t c =
     let floor = c .before .before .before .before .before .before .before .before .before .before .before in
     let turn = floor .before .before in
-    let u = facts t turn in
-    let nothing = rw (c .before .before .before .carry .ensures) at (c .before .may-win .ensures (c .if5 .left)) in
-    (turn .before .before .before .loop .inv .0, up-skip u (floor .before .lost-with .ensures) (floor .loss-floor .ensures) nothing)
+    let nothing = c .before .may-win .ensures (c .if5 .left) in
+    (turn .before .before .before .loop .inv .0, up-skip (facts t turn) (floor .before .lost-with .ensures) (floor .loss-floor .ensures) (c .before .before .before .carry .ensures) nothing)
 
 returns-3 : (t : ℕ) → find-best-lts.Need-returns-3 (claims t) (given t) find-best.Post Inv-loop μ-loop
 returns-3 t c =

@@ -1,14 +1,15 @@
 -- `table_climb::find_stairs` meets its contract: before each turn of its loop, the walk from the present period up, begun with the staircase that stands, ends as the whole walk does.
 -- Assumes nothing.
 use Prim.Native.Nat.{ℕ, _<_, _+_, _-_}
-use Rattle.walk.proofs.Cuts.{ready-more, ready-tries, ready-own, ready-need}
+use Rattle.walk.proofs.Cuts.{ready-more, ready-tries, ready-plan}
 use Rattle.table_stairs.specs.Stairs.{enter}
 use Rattle.table_stairs.specs.Rows.{most, stairsOf, Standing}
 use Rattle.table_stairs.proofs.Updates.{keeps-bound}
 use Rattle.table_climb.specs.Collected.{Ordered}
 use Rattle.table_climb.proofs.Ordered.{enter-absorbs}
 use Rattle.table_climb.proofs.Climbing.{standing-ordered, period-set}
-use Rattle.walk.proofs.Climbing.{Up, Turn, up-leaf, up-starts, up-done, up-place, up-to, up-loss-fits, up-later, up-first, up-cut, up-next, up-floor, up-left, up-pass, up-skip, up-turn}
+use Rattle.walk.proofs.Climbing.{Up, Turn, up-leaf, up-starts, up-done, up-place, up-to, up-next-to, up-falls}
+use Rattle.walk.proofs.Climbing.{up-loss-fits, up-later, up-first, up-carry, up-cut, up-floor, up-left, up-pass, up-skip, up-next, up-turn}
 use borrow.Author.Needs.{needs}
 use native.Mathlib.Omega.{arith}
 use borrow.Fn.Kinds.{In}
@@ -67,8 +68,8 @@ abbrev μ-loop : find-stairs-lts.MeasureT-loop
 enter-plan-requires : (t : ℕ) → find-stairs-lts.Need-enter-plan-requires (claims t) (given t) find-stairs.Post Inv-loop μ-loop
 enter-plan-requires t c κs =
     let s = c .before .before .before .before in
-    let r = s .pre .1 .0 in
-    (ready-need r, (omega (arith, r .bounded .lost-to, r .held .count, r .held .most), s .pre .1 .1))
+    let fits = ready-plan (s .pre .1 .0) in
+    (fits .0, (omega (arith, fits .1), s .pre .1 .1))
 
 returns : (t : ℕ) → find-stairs-lts.Need-returns (claims t) (given t) find-stairs.Post Inv-loop μ-loop
 returns t c =
@@ -90,9 +91,10 @@ loop-holds t c =
 abbrev Known : (t : ℕ) → find-stairs-lts.Then2 (claims t) (given t) find-stairs.Post Inv-loop μ-loop → Type 0
 Known t c =
     let l = c .before .before .before .loop in
-    let a = c .before .before .before .before .before .before .before .args in
-    Turn Ordered (enter most (a .budget .0)) (a .spans .now) (a .pages .now) (a .rates .now) (a .stiffnesses .now) (a .i) (a .n) (a .step)
-    (a .written) (a .lost) (a .periods .now) (stairsOf (a .n) (a .rows .now) (a .marks .now)) (l .periods) (stairsOf (a .n) (l .rows) (l .marks)) (l .t)
+    let tried = c .before .before .before .before .before in
+    let a = tried .before .before .args in
+    Turn (enter most (a .budget .0)) (a .spans .now) (a .pages .now) (a .rates .now) (a .stiffnesses .now) (a .i) (a .n) (a .step) (a .written) (a .lost)
+    Ordered (tried .to-try .result) (a .periods .now) (stairsOf (a .n) (a .rows .now) (a .marks .now)) (l .periods) (stairsOf (a .n) (l .rows) (l .marks)) (l .t)
 
 facts : (t : ℕ) (c : find-stairs-lts.Then2 (claims t) (given t) find-stairs.Post Inv-loop μ-loop) → Known t c
 facts t c =
@@ -101,16 +103,15 @@ facts t c =
     record {
       ready = r;
       less = ready-more r (tried .before .if1 .left);
+      told = tried .to-try .ensures;
       up = c .before .before .before .loop .inv .1;
-      on = rw (tried .to-try .ensures) at (c .if2 .taken);
+      on = c .if2 .taken;
       absorbs = enter-absorbs most _ (omega arith);
       good = standing-ordered (c .before .before .before .loop .inv .0);
     }
 
 lost-with-requires : (t : ℕ) → find-stairs-lts.Need-lost-with-requires (claims t) (given t) find-stairs.Post Inv-loop μ-loop
-lost-with-requires t c κs =
-    let u = facts t c in
-    (up-place u, (u .ready .bounded .lost-to, up-loss-fits u))
+lost-with-requires t c κs = up-loss-fits (facts t c)
 
 add-loss-floor : (t : ℕ) → find-stairs-lts.Need-add-loss-floor (claims t) (given t) find-stairs.Post Inv-loop μ-loop
 add-loss-floor t c = search needs
@@ -119,9 +120,7 @@ loss-floor-requires : (t : ℕ) → find-stairs-lts.Need-loss-floor-requires (cl
 loss-floor-requires t c κs = up-later (facts t (c .before))
 
 add-floor : (t : ℕ) → find-stairs-lts.Need-add-floor (claims t) (given t) find-stairs.Post Inv-loop μ-loop
-add-floor t c =
-    let u = facts t (c .before .before) in
-    omega (arith, up-floor u (c .before .lost-with .ensures) (c .loss-floor .ensures))
+add-floor t c = omega (arith, up-floor (facts t (c .before .before)) (c .before .lost-with .ensures) (c .loss-floor .ensures))
 
 element-copy-out-if3 : (t : ℕ) → find-stairs-lts.Need-element-copy-out-if3 (claims t) (given t) find-stairs.Post Inv-loop μ-loop
 element-copy-out-if3 t c = search needs
@@ -138,46 +137,30 @@ returns-2 t c =
     record { stands = l .inv .0; walked = up-left (facts t turn) own low (keeps-bound most (a .budget .0) stairs (omega (arith, c .if3 .taken))) }
 
 add-carry : (t : ℕ) → find-stairs-lts.Need-add-carry (claims t) (given t) find-stairs.Post Inv-loop μ-loop
-add-carry t c =
-    let u = facts t (c .before .before .before .before .before .before) in
-    omega (arith, up-to u, u .ready .to)
+add-carry t c = omega (arith, up-next-to (facts t (c .before .before .before .before .before .before)))
 
 repeats-requires : (t : ℕ) → find-stairs-lts.Need-repeats-requires (claims t) (given t) find-stairs.Post Inv-loop μ-loop
-repeats-requires t c κs =
-    let turn = c .before .before .before .before .before .before in
-    let u = facts t turn in
-    (up-place u, (u .ready .from, rw (turn .before .before .before .before .before .to-try .ensures) (up-first u)))
+repeats-requires t c κs = up-first (facts t (c .before .before .before .before .before .before))
 
 loop-less : (t : ℕ) → find-stairs-lts.Need-loop-less (claims t) (given t) find-stairs.Post Inv-loop μ-loop
-loop-less t c =
-    let turn = c .before .before .before .before .before .before .before .before in
-    omega (arith, turn .if2 .taken, facts t turn .ready .from)
+loop-less t c = up-falls (facts t (c .before .before .before .before .before .before .before .before))
 
 loop-again : (t : ℕ) → find-stairs-lts.Need-loop-again (claims t) (given t) find-stairs.Post Inv-loop μ-loop
 loop-again t c =
     let turn = c .before .before .before .before .before .before .before .before in
-    let passed = rw (turn .before .before .before .before .before .to-try .ensures) at (c .before .repeats .ensures (c .if4 .taken)) in
-    (turn .before .before .before .loop .inv .0, up-pass (facts t turn) passed)
+    (turn .before .before .before .loop .inv .0, up-pass (facts t turn) (c .before .repeats .ensures (c .if4 .taken)))
 
 mul-carry : (t : ℕ) → find-stairs-lts.Need-mul-carry (claims t) (given t) find-stairs.Post Inv-loop μ-loop
-mul-carry t c =
-    let u = facts t (c .before .before .before .before .before .before .before .before) in
-    omega (arith, up-place u)
+mul-carry t c = omega (arith, up-place (facts t (c .before .before .before .before .before .before .before .before)))
 
 element-copy-out-carry : (t : ℕ) → find-stairs-lts.Need-element-copy-out-carry (claims t) (given t) find-stairs.Post Inv-loop μ-loop
-element-copy-out-carry t c =
-    let u = facts t (c .before .before .before .before .before .before .before .before) in
-    omega (arith, up-place u)
+element-copy-out-carry t c = omega (arith, up-place (facts t (c .before .before .before .before .before .before .before .before)))
 
 carry-requires : (t : ℕ) → find-stairs-lts.Need-carry-requires (claims t) (given t) find-stairs.Post Inv-loop μ-loop
-carry-requires t c κs =
-    let u = facts t (c .before .before .before .before .before .before .before .before .before) in
-    (ready-need (u .ready), up-to u, ready-own (u .ready) (u .less))
+carry-requires t c κs = up-carry (facts t (c .before .before .before .before .before .before .before .before .before))
 
 add-may-enter : (t : ℕ) → find-stairs-lts.Need-add-may-enter (claims t) (given t) find-stairs.Post Inv-loop μ-loop
-add-may-enter t c =
-    let u = facts t (c .before .before .before .before .before .before .before .before .before .before) in
-    omega (arith, up-place u)
+add-may-enter t c = omega (arith, up-place (facts t (c .before .before .before .before .before .before .before .before .before .before)))
 
 may-enter-requires : (t : ℕ) → find-stairs-lts.Need-may-enter-requires (claims t) (given t) find-stairs.Post Inv-loop μ-loop
 may-enter-requires t c κs =
@@ -186,63 +169,46 @@ may-enter-requires t c κs =
     let u = facts t turn in
     let z = turn .before .before .before .loop .inv .0 in
     let fits = up-floor u (floor .before .lost-with .ensures) (floor .loss-floor .ensures) in
-    (rw (c .before .before .carry .ensures) (up-cut u), (omega (arith, fits), (z .count-to, z .rises)))
+    (up-cut u (c .before .before .carry .ensures), (omega (arith, fits), (z .count-to, z .rises)))
 
 mul-periods : (t : ℕ) → find-stairs-lts.Need-mul-periods (claims t) (given t) find-stairs.Post Inv-loop μ-loop
-mul-periods t c =
-    let u = facts t (c .before .before .before .before .before .before .before .before .before .before .before .before .before .before) in
-    omega (arith, up-place u)
+mul-periods t c = omega (arith, up-place (facts t (c .before .before .before .before .before .before .before .before .before .before .before .before .before .before)))
 
 element-write-periods : (t : ℕ) → find-stairs-lts.Need-element-write-periods (claims t) (given t) find-stairs.Post Inv-loop μ-loop
-element-write-periods t c =
-    let u = facts t (c .before .before .before .before .before .before .before .before .before .before .before .before .before .before) in
-    omega (arith, up-place u)
+element-write-periods t c = omega (arith, up-place (facts t (c .before .before .before .before .before .before .before .before .before .before .before .before .before .before)))
 
 add-find-stairs : (t : ℕ) → find-stairs-lts.Need-add-find-stairs (claims t) (given t) find-stairs.Post Inv-loop μ-loop
-add-find-stairs t c =
-    let u = facts t (c .before .before .before .before .before .before .before .before .before .before .before .before .before .before) in
-    omega (arith, up-place u)
+add-find-stairs t c = omega (arith, up-place (facts t (c .before .before .before .before .before .before .before .before .before .before .before .before .before .before)))
 
 find-stairs-requires : (t : ℕ) → find-stairs-lts.Need-find-stairs-requires (claims t) (given t) find-stairs.Post Inv-loop μ-loop
 find-stairs-requires t c κs =
     let floor = c .before .before .before .before .before .before .before .before .before .before .before .before .before .before .before in
-    let turn = floor .before .before in
-    let u = facts t turn in
-    let l = turn .before .before .before in
-    let s = l .before .before .before .before in (
-      omega (arith, u .less, s .pre .0),
-      (
-        rw (c .before .before .before .before .before .before .before .carry .ensures) (up-next u (floor .before .lost-with .ensures)),
-        period-set (u .ready .held .most) (u .less) (up-to u) (l .loop .inv .0),
-      ),
-    )
+    let u = facts t (floor .before .before) in
+    let l = floor .before .before .before .before .before in
+    let s = l .before .before .before .before in
+    let ready = up-next u (floor .before .lost-with .ensures) (c .before .before .before .before .before .before .before .carry .ensures) in
+    (omega (arith, u .less, s .pre .0), (ready, period-set (u .ready .held .most) (u .less) (up-to u) (l .loop .inv .0)))
 
 loop-less-2 : (t : ℕ) → find-stairs-lts.Need-loop-less-2 (claims t) (given t) find-stairs.Post Inv-loop μ-loop
-loop-less-2 t c =
-    let turn = c .before .before .before .before .before .before .before .before .before .before .before .before .before .before .before .before .before .before in
-    omega (arith, turn .if2 .taken, facts t turn .ready .from)
+loop-less-2 t c = up-falls (facts t (c .before .before .before .before .before .before .before .before .before .before .before .before .before .before .before .before .before .before))
 
 loop-again-2 : (t : ℕ) → find-stairs-lts.Need-loop-again-2 (claims t) (given t) find-stairs.Post Inv-loop μ-loop
 loop-again-2 t c =
     let floor = c .before .before .before .before .before .before .before .before .before .before .before .before .before .before .before .before in
     let turn = floor .before .before in
-    let u = facts t turn in
     let w = c .find-stairs .ensures in
-    let walked = rw (c .before .before .before .before .before .before .before .before .carry .ensures) at (w .walked) in
-    (w .stands, up-turn u (floor .before .lost-with .ensures) (turn .before .before .before .loop .inv .0 .periods .size) walked)
+    let z = turn .before .before .before .loop .inv .0 in
+    (w .stands, up-turn (facts t turn) (floor .before .lost-with .ensures) (c .before .before .before .before .before .before .before .before .carry .ensures) (z .periods .size) (w .walked))
 
 loop-less-3 : (t : ℕ) → find-stairs-lts.Need-loop-less-3 (claims t) (given t) find-stairs.Post Inv-loop μ-loop
-loop-less-3 t c =
-    let turn = c .before .before .before .before .before .before .before .before .before .before .before .before .before .before in
-    omega (arith, turn .if2 .taken, facts t turn .ready .from)
+loop-less-3 t c = up-falls (facts t (c .before .before .before .before .before .before .before .before .before .before .before .before .before .before))
 
 loop-again-3 : (t : ℕ) → find-stairs-lts.Need-loop-again-3 (claims t) (given t) find-stairs.Post Inv-loop μ-loop
 loop-again-3 t c =
     let floor = c .before .before .before .before .before .before .before .before .before .before .before .before in
     let turn = floor .before .before in
-    let u = facts t turn in
-    let nothing = rw (c .before .before .before .before .carry .ensures) at (c .before .may-enter .ensures (c .if5 .left)) in
-    (turn .before .before .before .loop .inv .0, up-skip u (floor .before .lost-with .ensures) (floor .loss-floor .ensures) nothing)
+    let nothing = c .before .may-enter .ensures (c .if5 .left) in
+    (turn .before .before .before .loop .inv .0, up-skip (facts t turn) (floor .before .lost-with .ensures) (floor .loss-floor .ensures) (c .before .before .before .before .carry .ensures) nothing)
 
 returns-3 : (t : ℕ) → find-stairs-lts.Need-returns-3 (claims t) (given t) find-stairs.Post Inv-loop μ-loop
 returns-3 t c =
