@@ -54,7 +54,8 @@ module _ {spans pages rates stiffnesses : List ℕ} {n : ℕ} {js : List Job} (h
         let f = best-found some in
         let q = f .its-need in
         let to = f .best .fits in
-        record { count = held .most; size = w .sizes .best-size; periods = λ k less. (let p = permitted-to (seconds 1) js n best′ (held-valid js held) (f .best .permitted) k less in omega arith); its-need = omega arith }
+        let within = permitted-to (seconds 1) js n best′ (held-valid js held) (f .best .permitted) in
+        record { count = held .most; size = w .sizes .best-size; periods = λ k less. (let p = within k less in omega arith); its-need = omega arith }
 
     pub plan-right : (getD best′ 9 0 ≡ noPlan → ⊥) → Outcome js b (planIn n best′)
     unfolding settle

@@ -24,7 +24,8 @@ plan-more best ps k less size e =
     let v = seconds (getD best k 0) in
     let rest = replicate (8 - (k + 1)) (seconds 0) in
     let zeros : replicate (8 - k) (seconds 0) ≡ seconds 0 ∷ rest = (let d : 8 - k ≡ suc (8 - (k + 1)) = omega arith in ap (λ (m : ℕ). replicate m (seconds 0)) d) in
-    let more : periodsIn (k + 1) best ≡ periodsIn k best ++ (v ∷ []) = ap (λ (m : ℕ). periodsIn m best) (add-one k) ∙ ap (map seconds) (take-suc best k 0 (omega arith)) ∙ periods-snoc (take k best) (getD best k 0) in
+    let taken = ap (map seconds) (take-suc best k 0 (omega arith)) ∙ periods-snoc (take k best) (getD best k 0) in
+    let more : periodsIn (k + 1) best ≡ periodsIn k best ++ (v ∷ []) = ap (λ (m : ℕ). periodsIn m best) (add-one k) ∙ taken in
     ap (λ (l : List Seconds). set l k v) (e ∙ ap (λ (l : List Seconds). periodsIn k best ++ l) zeros)
     ∙ set-at (periodsIn k best) (seconds 0) rest v k (periods-length k best (omega arith))
     ∙ sym (append-snoc (periodsIn k best) v rest)

@@ -37,7 +37,12 @@ module _ {n : ℕ} {ps : List ℕ} (few : n ≤ 8) (eight : length ps ≡ 8) whe
   pub one-copied : {best : List ℕ} {k : ℕ} (x : ℕ) → k < n → x ≡ getD ps k 0 → Copied n ps best k → Copied n ps (set best k x) (k + 1)
   one-copied {best} {k} x less is c =
       let size = c .size in
-      record { upto = omega arith; size = length-set best k x ∙ size; front = rw (add-one k) (take-suc-set best k x (omega arith) ∙ ap₂ (λ (l : List ℕ) (y : ℕ). l ++ (y ∷ [])) (c .front) is ∙ sym (take-suc ps k 0 (omega arith))) }
+      let more = ap₂ (λ (l : List ℕ) (y : ℕ). l ++ (y ∷ [])) (c .front) is in
+      record {
+        upto = omega arith;
+        size = length-set best k x ∙ size;
+        front = rw (add-one k) (take-suc-set best k x (omega arith) ∙ more ∙ sym (take-suc ps k 0 (omega arith)));
+      }
 
   pub all-copied : {best : List ℕ} (need : PagesPerHour) (loss : ℕ) → Copied n ps best n → Keeps n need loss ps (set (set best 8 (need .0)) 9 loss)
   all-copied {best} need loss c =
@@ -64,7 +69,9 @@ module _ {n : ℕ} {b : PagesPerHour} {t : Seconds} {written lost : ℕ} {ps bes
   passed : pick (b .0) (needAt written t) lost (periodsIn n ps) (foundIn n best) ≡ foundIn n best → Offers n b t written lost ps best best
   passed e = record { size = sizes .best-size; is = sym e }
 
-  had : (getD best 9 0 ≡ noPlan → ⊥) → pick (b .0) (needAt written t) lost (periodsIn n ps) (found (getD best 8 0) (getD best 9 0) (periodsIn n best)) ≡ found (getD best 8 0) (getD best 9 0) (periodsIn n best) → Offers n b t written lost ps best best
+  had : (getD best 9 0 ≡ noPlan → ⊥) →
+      (let plan = found (getD best 8 0) (getD best 9 0) (periodsIn n best) in pick (b .0) (needAt written t) lost (periodsIn n ps) plan ≡ plan) →
+      Offers n b t written lost ps best best
   had some e = passed (subst (λ (f : Found). pick (b .0) (needAt written t) lost (periodsIn n ps) f ≡ f) (sym (plan-found n best some)) e)
 
   pub offer-over : b .0 < needAt written t → Offers n b t written lost ps best best

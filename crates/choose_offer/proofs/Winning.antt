@@ -19,7 +19,9 @@ use Rattle.choose_offer.proofs.Stored.{plan-found}
 
 -- a loss floor above the best loss
 pub more-loss-kept : (n : ℕ) (b : PagesPerHour) (best : List ℕ) {l : ℕ} → getD best 9 0 < l → l < noPlan → Keeps (pick (b .0)) (foundIn n best) 0 l
-more-loss-kept n b best {l} above small = subst (λ (a : Found). Keeps (pick (b .0)) a 0 l) (sym (plan-found n best (λ d. omega arith))) (keeps-more-loss (b .0) (getD best 8 0) (getD best 9 0) (periodsIn n best) above)
+more-loss-kept n b best {l} above small =
+    let plan = plan-found n best (λ d. omega arith) in
+    subst (λ (a : Found). Keeps (pick (b .0)) a 0 l) (sym plan) (keeps-more-loss (b .0) (getD best 8 0) (getD best 9 0) (periodsIn n best) above)
 
 module _ {spans rates : List ℕ} {i n : ℕ} {t : Seconds} {written : ℕ} (r : ReadyForCut spans rates i n t written) (b : PagesPerHour) (floor : ℕ) (best : List ℕ) where
   -- the need floor is over the budget
@@ -29,8 +31,10 @@ module _ {spans rates : List ℕ} {i n : ℕ} {t : Seconds} {written : ℕ} (r :
   -- the loss floor is that of the best, the need floor not below its need
   pub tie-wins-nothing : floor < noPlan → floor ≡ getD best 9 0 → getD best 8 0 ≤ needAt written t + getD rates (8 + i) 0 → WinsNothing spans rates i n b t written floor best
   tie-wins-nothing small same no-less =
-      floors-cut (pick (b .0)) (foundIn n best) r floor (needAt written t + getD rates (8 + i) 0) floor (le-refl _) (le-refl _)
-      (subst (λ (a : Found). Keeps (pick (b .0)) a (needAt written t + getD rates (8 + i) 0) floor) (sym (plan-found n best (λ d. omega arith))) (keeps-no-less (b .0) (getD best 8 0) (getD best 9 0) (periodsIn n best) (omega arith) no-less))
+      let q = needAt written t + getD rates (8 + i) 0 in
+      let plan = plan-found n best (λ d. omega arith) in
+      let keeps = keeps-no-less (b .0) (getD best 8 0) (getD best 9 0) (periodsIn n best) {k = q} {l = floor} (omega arith) no-less in
+      floors-cut (pick (b .0)) (foundIn n best) r floor q floor (le-refl _) (le-refl _) (subst (λ (a : Found). Keeps (pick (b .0)) a q floor) (sym plan) keeps)
 
   -- a later interval holds no multiple
   pub unreached-wins-nothing : Unreached spans i n t → WinsNothing spans rates i n b t written floor best

@@ -14,7 +14,7 @@ use Rattle.model.specs.Model.{seconds, Permitted, need, loss, NotAfter}
 use Rattle.model.specs.Valid.{ValidJobs}
 use Rattle.walk.specs.Chains.{chains}
 use Rattle.walk.specs.Walk.{visit, start, walk}
-use Rattle.table_stairs.specs.Stairs.{Stair, stair, Stairs, noStairs, covered, Covering, among, atMost, enter}
+use Rattle.table_stairs.specs.Stairs.{Stair, stair, Stairs, noStairs, covered, Covering, among, enter}
 use Rattle.walk.specs.Laws.{Sorted}
 use Rattle.walk.proofs.Sorted.{not-after-self}
 use Rattle.walk.proofs.Chains.{multiples-lists, chains-only, chains-all, chains-sorted}
@@ -22,7 +22,7 @@ use Rattle.walk.proofs.Walk.{walk-all}
 use Rattle.table_climb.specs.Collected.{Ordered, Plan, Law, Served, Serves, Collected}
 use Rattle.table_stairs.proofs.Updates.{covers}
 use Rattle.table_climb.proofs.Order.{among-new, among-some, among-in, among-has}
-use Rattle.table_climb.proofs.Ordered.{entered, Limited, enter-either}
+use Rattle.table_climb.proofs.Ordered.{entered, Limited, Entry, enter-either}
 
 -- by the same row, among others
 pub still-served : {js : List Job} {rows : List Stair} (others : List Stair) {us : List Seconds} (a : Served js rows us) → List·Memᴰ (a .by .row) others → Served js others us
@@ -124,10 +124,10 @@ module _ (js : List Job) (b : ℕ) (x : List Seconds) (xs : List (List Seconds))
         by-row : Covering q l (s .rows) → Served js (s .rows) x
         by-row c = record { by = c; first = λ e d. law .not-after (c .row) (c .stands) x (List·Memᴰ·head refl) }
 
-        takes : q ≤ b → l < s .bound → covered q l (s .rows) ≡ false → Ordered (entered q l x s) → Limited (entered q l x s) (atMost most (among q l x (s .rows)) (s .bound)) → Step js b x xs s (atMost most (among q l x (s .rows)) (s .bound))
-        takes fits less new ordered limited =
-            let one = taken fits new ordered in
-            let few = limits (one .change .law) limited in
+        takes : (after : Stairs) → Entry b q l x s after → Step js b x xs s after
+        takes after e =
+            let one = taken (e .fits) (e .new) (e .ordered) in
+            let few = limits (one .change .law) (e .limited) in
             record {
               change = record { law = few .law; serves = λ us h. few .serves us (one .change .serves us h) };
               here = few .serves x (one .here);

@@ -29,6 +29,18 @@ pub record Limited (s after : Stairs) : Type 0 where
   pub stands : (r : Stair) → List·Memᴰ r (s .rows) → r .its-loss < after .bound → List·Memᴰ r (after .rows)
   pub none : length (after .rows) ≡ 0 → (length (s .rows) ≡ 0) × (after .bound ≡ s .bound)
 
+-- How a plan enters: it fits, loses less than the bound, no row covers it, and `after` is what stands with it, of at most so many rows.
+pub record Entry (b q l : ℕ) (ts : List Seconds) (s after : Stairs) : Type 0 where
+  pub fits : q ≤ b
+  pub less : l < s .bound
+  pub new : covered q l (s .rows) ≡ false
+  pub ordered : Ordered (entered q l ts s)
+  pub limited : Limited (entered q l ts s) after
+
+-- A plan of this need and loss does not enter: it is over the budget, it reaches the bound, or some row covers it.
+abbrev pub Refused : ℕ → ℕ → ℕ → Stairs → Type 0
+Refused b q l s = q ≤ b → l < s .bound → Covering q l (s .rows)
+
 module _ (most : ℕ) (pos : 1 ≤ most) where
   -- the limit on the number of rows
   limited : (s : Stairs) → Ordered s → Limited s (atMost most (s .rows) (s .bound))
@@ -52,27 +64,23 @@ module _ (most : ℕ) (pos : 1 ≤ most) where
 
   module _ (b q l : ℕ) (ts : List Seconds) (s : Stairs) (o : Ordered s) where
     -- a plan enters, or what stands covers it as far as it fits and loses less than the bound
-    pub enter-either : (P : Stairs → Type 0) →
-        (q ≤ b → l < s .bound → covered q l (s .rows) ≡ false → Ordered (entered q l ts s) → Limited (entered q l ts s) (atMost most (among q l ts (s .rows)) (s .bound)) → P (atMost most (among q l ts (s .rows)) (s .bound))) →
-        ((q ≤ b → l < s .bound → Covering q l (s .rows)) → P s) →
-        P (enter most b q l ts s)
+    pub enter-either : (P : Stairs → Type 0) → ((after : Stairs) → Entry b q l ts s after → P after) → (Refused b q l s → P s) → P (enter most b q l ts s)
     enter-either P enters stays = go (decLe q b) (decLt l (s .bound)) (covered q l (s .rows)) refl
       where
         go : Dec (q ≤ b) → Dec (l < s .bound) → (t : Bool) → covered q l (s .rows) ≡ t → P (enter most b q l ts s)
         go (no over) d t e = rw (enter-over most b q l ts s (omega arith)) (stays (λ fit low. absurd (over fit)))
         go (yes fits) (no high) t e = rw (enter-bound most b q l ts s (omega arith)) (stays (λ fit low. absurd (high low)))
         go (yes fits) (yes less) true e = rw (enter-covered most b q l ts s e) (stays (λ fit low. covering q l (s .rows) e))
-        go (yes fits) (yes less) false e = rw (enter-new most b q l ts s fits less e) (enters fits less e (in-order less e) (limited (entered q l ts s) (in-order less e)))
+        go (yes fits) (yes less) false e = rw (enter-new most b q l ts s fits less e) (enters (atMost most (among q l ts (s .rows)) (s .bound)) entry)
           where
-            below : l < s .bound → (r : Stair) → List·Memᴰ r (among q l ts (s .rows)) → r .its-loss < s .bound
-            below less r m = ⊎-elim (λ d. rw d less) (o .bounded r) (among-in q l ts (s .rows) (o .order) m)
+            below : (r : Stair) → List·Memᴰ r (among q l ts (s .rows)) → r .its-loss < s .bound
+            below r m = ⊎-elim (λ d. rw d less) (o .bounded r) (among-in q l ts (s .rows) (o .order) m)
 
-            in-order : l < s .bound → covered q l (s .rows) ≡ false → Ordered (entered q l ts s)
-            in-order less new = record { order = among-staircase q l ts (s .rows) (o .order) new; bounded = below less }
+            in-order : Ordered (entered q l ts s)
+            in-order = record { order = among-staircase q l ts (s .rows) (o .order) e; bounded = below }
 
--- A plan of this need and loss does not enter: it is over the budget, it reaches the bound, or some row covers it.
-abbrev Refused : ℕ → ℕ → ℕ → Stairs → Type 0
-Refused b q l s = q ≤ b → l < s .bound → Covering q l (s .rows)
+            entry : Entry b q l ts s (atMost most (among q l ts (s .rows)) (s .bound))
+            entry = record { fits = fits; less = less; new = e; ordered = in-order; limited = limited (entered q l ts s) in-order }
 
 refused-kept : (most b q l : ℕ) (ts : List Seconds) (s : Stairs) → Refused b q l s → enter most b q l ts s ≡ s
 refused-kept most b q l ts s h = go (decLe q b) (decLt l (s .bound))
@@ -84,20 +92,21 @@ refused-kept most b q l ts s h = go (decLe q b) (decLt l (s .bound))
 
 module _ (most : ℕ) (pos : 1 ≤ most) (b q l : ℕ) (ts : List Seconds) (s : Stairs) (o : Ordered s) where
   enter-ordered : Ordered (enter most b q l ts s)
-  enter-ordered = enter-either most pos b q l ts s o Ordered (λ fits less new in-order few. few .ordered) (λ k. o)
+  enter-ordered = enter-either most pos b q l ts s o Ordered (λ after e. e .limited .ordered) (λ k. o)
 
   -- the plan itself covers what has no less need and no less loss, as far as that loses less than the bound
   by-new : {after : Stairs} → Limited (entered q l ts s) after → {q′ l′ : ℕ} → q ≤ q′ → l ≤ l′ → l′ < after .bound → Covering q′ l′ (after .rows)
   by-new few needs loses low = record { row = stair q l ts; stands = few .stands (stair q l ts) (among-new q l ts (s .rows) (o .order)) (omega arith); needs = needs; loses = loses }
 
   refused-after : Refused b q l (enter most b q l ts s)
-  refused-after = enter-either most pos b q l ts s o (Refused b q l) (λ fits less new in-order few fit low. by-new few (le-refl q) (le-refl l) low) (λ k. k)
+  refused-after = enter-either most pos b q l ts s o (Refused b q l) (λ after e fit low. by-new (e .limited) (le-refl q) (le-refl l) low) (λ k. k)
 
   refused-stays : {q′ l′ : ℕ} → Refused b q′ l′ s → Refused b q′ l′ (enter most b q l ts s)
   refused-stays {q′} {l′} h = enter-either most pos b q l ts s o (Refused b q′ l′) still (λ k. h)
     where
-      still : q ≤ b → l < s .bound → covered q l (s .rows) ≡ false → Ordered (entered q l ts s) → Limited (entered q l ts s) (atMost most (among q l ts (s .rows)) (s .bound)) → Refused b q′ l′ (atMost most (among q l ts (s .rows)) (s .bound))
-      still fits less new in-order few fit low =
+      still : (after : Stairs) → Entry b q l ts s after → Refused b q′ l′ after
+      still after e fit low =
+          let few = e .limited in
           let c = h fit (omega (arith, few .lower)) in
           ⊎-elim
           (λ m. record { row = c .row; stands = few .stands (c .row) m (omega (arith, c .loses)); needs = c .needs; loses = c .loses })

@@ -21,7 +21,8 @@ use Rattle.walk.specs.Arrays.{HoldsJob, HoldsJobs, Held, jobAt, Filled, 
 use Rattle.walk.proofs.Bounds.{least-needs-bound}
 
 -- one entry more, in front
-filled-more : (place f : ℕ → ℕ) {k to : ℕ} (xs : List ℕ) (v : ℕ) → ((m : ℕ) → k ≤ m → (place m ≡ place (k - 1) → ⊥)) → place (k - 1) < length xs → v ≡ f (k - 1) → Filled place f k to xs → Filled place f (k - 1) to (set xs (place (k - 1)) v)
+filled-more : (place f : ℕ → ℕ) {k to : ℕ} (xs : List ℕ) (v : ℕ) → ((m : ℕ) → k ≤ m → (place m ≡ place (k - 1) → ⊥)) → place (k - 1) < length xs → v ≡ f (k - 1) →
+    Filled place f k to xs → Filled place f (k - 1) to (set xs (place (k - 1)) v)
 filled-more place f {k} {to} xs v apart room is h m from less = go (ℕ-discrete m (k - 1))
   where
     go : Dec (m ≡ k - 1) → getD (set xs (place (k - 1)) v) (place m) 0 ≡ f m

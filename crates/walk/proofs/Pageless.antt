@@ -6,7 +6,8 @@ use mathlib.Core.Logic.{⊎-elim}
 use mathlib.Core.List.{List, [], _∷_, _++_, List·Memᴰ, List·Memᴰ·not-nil, List·Memᴰ·cases-cons}
 use Prim.Native.Nat.{ℕ, zero, suc, _+_, _*_, _-_, _/_, _%_, _^_, _≤_, _<_}
 use native.Mathlib.Omega.{arith}
-use native.Mathlib.Nat.{le-refl, le-antisymm, mul-mod-left, mul-mod-right, mod-one, mul-assoc, mul-le-mul-left, le-of-mul-le-mul-right, mul-le-mul-right, mul-lt-mul-of-pos-right, lt-of-mul-lt-mul-right, mul-zero, zero-div}
+use native.Mathlib.Nat.{le-refl, le-antisymm, mul-mod-left, mul-mod-right, mod-one, mul-assoc, mul-zero, zero-div}
+use native.Mathlib.Nat.{mul-le-mul-left, mul-le-mul-right, le-of-mul-le-mul-right, mul-lt-mul-of-pos-right, lt-of-mul-lt-mul-right}
 use native.Mathlib.Decide.{ℕ-discrete}
 use Rattle.model.specs.declared.Seconds.{Seconds}
 use Rattle.model.specs.declared.Job.{Job}
@@ -203,4 +204,6 @@ module _ {A : Type 0} (f : ℕ → ℕ → List Seconds → A → A) (j : Job) (
         let apart : a * p ≡ a / d * d * p = ap (λ (x : ℕ). x * p) a-is in
         let over : t ≡ a / d * (d * p) = omega arith in
         let u-pos : 1 ≤ d * p = factors (a / d) (d * p) t-pos over .1 in
-        passed-over law f s j js n (seconds (d * p)) (seconds t) v none pos u-pos t-pos (mul-mod-left d p) (ap (λ (x : ℕ). x % (d * p)) over ∙ mul-mod-left (a / d) (d * p)) (to (d * p) (mul-mod-left d p) (omega arith) (omega arith))
+        let u-multiple : d * p % p ≡ 0 = mul-mod-left d p in
+        let t-multiple : t % (d * p) ≡ 0 = ap (λ (x : ℕ). x % (d * p)) over ∙ mul-mod-left (a / d) (d * p) in
+        passed-over law f s j js n (seconds (d * p)) (seconds t) v none pos u-pos t-pos u-multiple t-multiple (to (d * p) u-multiple (omega arith) (omega arith))

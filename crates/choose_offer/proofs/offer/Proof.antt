@@ -25,9 +25,11 @@ keep-requires c κs = search needs
 
 returns-2 : tie.Need-returns-2
 returns-2 c =
-    let p = c .before .before .before .before .before .before .before .before .pre in
-    let e = ap (λ (q : PagesPerHour). q .0) (c .before .before .before .before .before .before .before .need-of .ensures) in
-    offer-less-loss (p .1 .0) (p .1 .1) (omega (arith, c .before .before .before .before .if1 .left)) (c .before .before .before .before .before .before .before .need-of .ensures) (c .keep .ensures) (omega (arith, c .before .before .if2 .taken))
+    let fits = c .before .before .before .before in
+    let scored = fits .before .before .before in
+    let p = scored .before .pre in
+    let e = ap (λ (q : PagesPerHour). q .0) (scored .need-of .ensures) in
+    offer-less-loss (p .1 .0) (p .1 .1) (omega (arith, fits .if1 .left)) (scored .need-of .ensures) (c .keep .ensures) (omega (arith, c .before .before .if2 .taken))
 
 element-copy-out-if3 : tie.Need-element-copy-out-if3
 element-copy-out-if3 c = search needs
@@ -48,15 +50,22 @@ keep-requires-2 c κs = search needs
 
 returns-4 : tie.Need-returns-4
 returns-4 c =
-    let p = c .before .before .before .before .before .before .before .before .before .before .before .before .before .pre in
-    let e = ap (λ (q : PagesPerHour). q .0) (c .before .before .before .before .before .before .before .before .before .before .before .before .need-of .ensures) in
-    offer-less-need (p .1 .0) (p .1 .1) (omega (arith, c .before .before .before .before .before .before .before .before .before .if1 .left)) (c .before .before .before .before .before .before .before .before .before .before .before .before .need-of .ensures) (c .keep2 .ensures) (omega (arith, c .before .before .before .before .before .if3 .left, c .before .before .before .before .before .before .before .if2 .left)) (omega (arith, c .before .before .if4 .taken))
+    let no-more = c .before .before .before .before .before in
+    let no-less = no-more .before .before in
+    let fits = no-less .before .before in
+    let scored = fits .before .before .before in
+    let p = scored .before .pre in
+    let e = ap (λ (q : PagesPerHour). q .0) (scored .need-of .ensures) in
+    offer-less-need (p .1 .0) (p .1 .1) (omega (arith, fits .if1 .left)) (scored .need-of .ensures) (c .keep2 .ensures)
+    (omega (arith, no-more .if3 .left, no-less .if2 .left)) (omega (arith, c .before .before .if4 .taken))
 
 returns-5 : tie.Need-returns-5
 returns-5 c =
-    let p = c .before .before .before .before .before .before .before .before .before .before .before .pre in
-    let e = ap (λ (q : PagesPerHour). q .0) (c .before .before .before .before .before .before .before .before .before .before .need-of .ensures) in
-    offer-no-less (p .1 .0) (p .1 .1) (omega (arith, c .before .before .before .before .before .if2 .left)) (omega arith)
+    let no-less = c .before .before .before .before .before in
+    let scored = no-less .before .before .before .before .before in
+    let p = scored .before .pre in
+    let e = ap (λ (q : PagesPerHour). q .0) (scored .need-of .ensures) in
+    offer-no-less (p .1 .0) (p .1 .1) (omega (arith, no-less .if2 .left)) (omega arith)
 
 pub offer-spec : {M : Type 1} → statement M
 offer-spec =

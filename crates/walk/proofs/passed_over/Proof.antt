@@ -31,8 +31,9 @@ rem-if2 c = search needs
 
 returns-2 : tie.Need-returns-2 Inv-loop μ-loop
 returns-2 c =
-    let a = c .before .before .before .before .args in
-    λ e. factor-passes (a .a) (c .before .before .loop .p) (a .first) (c .before .before .before .before .pre) (c .before .before .loop .inv) (c .before .loop-test .taken) (c .if2 .taken)
+    let s = c .before .before .before .before in
+    let l = c .before .before .loop in
+    λ e. factor-passes (s .args .a) (l .p) (s .args .first) (s .pre) (l .inv) (c .before .loop-test .taken) (c .if2 .taken)
 
 -- p is at most half of a: there is room for one more
 room : (a first p : ℕ) → 1 ≤ first → (first ≡ 1 → ⊥) → 2 ≤ p → first ≤ a / p → p * 2 ≤ a
@@ -41,10 +42,16 @@ room a first p some other two reached =
     omega arith
 
 add-p : tie.Need-add-p Inv-loop μ-loop
-add-p c = omega (arith, room (c .before .before .before .before .args .a) (c .before .before .before .before .args .first) (c .before .before .loop .p) (c .before .before .before .before .pre) (c .before .before .before .if1 .left) (c .before .before .loop .inv) (c .before .loop-test .taken))
+add-p c =
+    let s = c .before .before .before .before in
+    let l = c .before .before .loop in
+    omega (arith, room (s .args .a) (s .args .first) (l .p) (s .pre) (c .before .before .before .if1 .left) (l .inv) (c .before .loop-test .taken))
 
 loop-less : tie.Need-loop-less Inv-loop μ-loop
-loop-less c = omega (arith, room (c .before .before .before .before .args .a) (c .before .before .before .before .args .first) (c .before .before .loop .p) (c .before .before .before .before .pre) (c .before .before .before .if1 .left) (c .before .before .loop .inv) (c .before .loop-test .taken))
+loop-less c =
+    let s = c .before .before .before .before in
+    let l = c .before .before .loop in
+    omega (arith, room (s .args .a) (s .args .first) (l .p) (s .pre) (c .before .before .before .if1 .left) (l .inv) (c .before .loop-test .taken))
 
 loop-again : tie.Need-loop-again Inv-loop μ-loop
 loop-again c = search needs
