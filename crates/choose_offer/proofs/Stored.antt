@@ -15,7 +15,7 @@ use Rattle.model.specs.Model.{seconds, pagesPerHour}
 use Rattle.choose_offer.specs.Found.{Found, nothing, found, pick}
 use Rattle.step.specs.Step.{needAt}
 use Rattle.walk.specs.Steps.{periodsIn}
-use Rattle.choose_offer.specs.Steps.{noPlan, foundIn, Sizes, Keeps, Offers}
+use Rattle.choose_offer.specs.Steps.{noPlan, foundIn, Sizes, BestIs, Offers}
 use Rattle.choose_offer.proofs.Updates.{pick-over, pick-first, pick-less-loss, pick-less-need, pick-more-loss, pick-no-less}
 
 module _ (n : ℕ) (best : List ℕ) where
@@ -44,7 +44,7 @@ module _ {n : ℕ} {ps : List ℕ} (few : n ≤ 8) (eight : length ps ≡ 8) whe
         front = rw (add-one k) (take-suc-set best k x (omega arith) ∙ more ∙ sym (take-suc ps k 0 (omega arith)));
       }
 
-  pub all-copied : {best : List ℕ} (need : PagesPerHour) (loss : ℕ) → Copied n ps best n → Keeps n need loss ps (set (set best 8 (need .0)) 9 loss)
+  pub all-copied : {best : List ℕ} (need : PagesPerHour) (loss : ℕ) → Copied n ps best n → BestIs n need loss ps (set (set best 8 (need .0)) 9 loss)
   all-copied {best} need loss c =
       let one = set best 8 (need .0) in
       let size = c .size in
@@ -57,8 +57,8 @@ module _ {n : ℕ} {ps : List ℕ} (few : n ≤ 8) (eight : length ps ≡ 8) whe
       }
 
 -- what is found after a plan was kept
-keeps-found : {n : ℕ} {need : PagesPerHour} {loss : ℕ} {ps best : List ℕ} → loss < noPlan → Keeps n need loss ps best → foundIn n best ≡ found (need .0) loss (periodsIn n ps)
-keeps-found {n} {need} {loss} {ps} {best} small k =
+best-found : {n : ℕ} {need : PagesPerHour} {loss : ℕ} {ps best : List ℕ} → loss < noPlan → BestIs n need loss ps best → foundIn n best ≡ found (need .0) loss (periodsIn n ps)
+best-found {n} {need} {loss} {ps} {best} small k =
     let l = k .its-loss in
     plan-found n best (λ e. omega arith)
     ∙ ap₂ (λ (q m : ℕ). found q m (periodsIn n best)) (k .its-need) (k .its-loss)
@@ -84,9 +84,9 @@ module _ {n : ℕ} {b : PagesPerHour} {t : Seconds} {written lost : ℕ} {ps bes
   offer-no-less same no-less = had (λ e. omega arith) (pick-no-less (b .0) (needAt written t) lost (periodsIn n ps) (getD best 8 0) (getD best 9 0) (periodsIn n best) same no-less)
 
   -- a plan that is kept
-  module _ (fits : needAt written t ≤ b .0) {q : PagesPerHour} (is : q ≡ pagesPerHour (needAt written t)) {best′ : List ℕ} (k : Keeps n q lost ps best′) where
+  module _ (fits : needAt written t ≤ b .0) {q : PagesPerHour} (is : q ≡ pagesPerHour (needAt written t)) {best′ : List ℕ} (k : BestIs n q lost ps best′) where
     taken : found (needAt written t) lost (periodsIn n ps) ≡ pick (b .0) (needAt written t) lost (periodsIn n ps) (foundIn n best) → Offers n b t written lost ps best best′
-    taken e = record { size = k .size; is = keeps-found small k ∙ ap (λ (x : PagesPerHour). found (x .0) lost (periodsIn n ps)) is ∙ e }
+    taken e = record { size = k .size; is = best-found small k ∙ ap (λ (x : PagesPerHour). found (x .0) lost (periodsIn n ps)) is ∙ e }
 
     pub offer-less-loss : lost < getD best 9 0 → Offers n b t written lost ps best best′
     offer-less-loss less = taken (go (ℕ-discrete (getD best 9 0) noPlan))

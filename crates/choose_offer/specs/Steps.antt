@@ -26,8 +26,8 @@ pub record Sizes (n : ℕ) (ps best : List ℕ) : Type 0 where
   pub periods-size : length ps ≡ 8
   pub best-size : length best ≡ 10
 
--- A plan stands in best.
-pub record Keeps (n : ℕ) (need : PagesPerHour) (loss : ℕ) (ps best : List ℕ) : Type 0 where
+-- This plan stands in best.
+pub record BestIs (n : ℕ) (need : PagesPerHour) (loss : ℕ) (ps best : List ℕ) : Type 0 where
   pub size : length best ≡ 10
   pub periods : take n best ≡ take n ps
   pub its-need : getD best 8 0 ≡ need .0

@@ -9,7 +9,7 @@ ghost use mathlib.Core.Bool.{false};
 ghost use Prim.Native.Nat.{_<_};
 ghost use Rattle.step.specs.Step.{NeedFits};
 ghost use Rattle.walk.specs.Steps.{ReadyForCut};
-ghost use Rattle.choose_offer.specs.Steps.{noPlan, Sizes, Keeps, Offers, WinsNothing};
+ghost use Rattle.choose_offer.specs.Steps.{noPlan, Sizes, BestIs, Offers, WinsNothing};
 
 // Where the best plan has its need and its loss, behind eight periods.
 pub const NEED: usize = 8;
@@ -82,7 +82,7 @@ pub fn offer(
 // A plan becomes the best.
 fn keep(n: usize, need: PagesPerHour, loss: u64, periods: &[u32; 8], best: &mut [u64; 10])
     requires { ⌜ Sizes n (now periods) (now best) ⌝ }
-    ensures { λ _. ⌜ Keeps n need loss (now (periods .entry)) (now (best .exit)) ⌝ }
+    ensures { λ _. ⌜ BestIs n need loss (now (periods .entry)) (now (best .exit)) ⌝ }
 {
     let mut k: usize = 0;
     while k < n {
