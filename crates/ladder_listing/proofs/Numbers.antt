@@ -9,13 +9,14 @@ use Rattle.model.specs.declared.Job.{Job}
 use Rattle.model.specs.declared.Profile.{Profile}
 use Rattle.model.specs.declared.Verdict.the-variants.{Sound}
 use Rattle.model.specs.Model.{seconds, noJob, entries, jobsOf, lastOf, load, cost, pagesIn, need, rate, jobLoss, loss, refuseIf, orElse, ifSound, firstRefused, judgeIntervalAndStiffness, judgeJob, verdictOf, rowsVerdict}
+use Rattle.model.specs.Climb.{inTurn, climbTo}
 use Rattle.model.proofs.Validity.{sound-valid}
 use Rattle.codec.specs.Packing.{bits, pack, unpack, recut}
 use Rattle.profile_read.specs.declared.Reading.{Reading}
 use Rattle.profile_read.specs.Reading.{headerOf, recordsIn, judgeRecord, judgeHeader, verdictOfBytes, Reads}
 use Rattle.walk.specs.Walk.{walkBy, visit}
 use Rattle.choose_offer.specs.Found.{pick, beats}
-use Rattle.walk.specs.Chains.{multiples, risingFrom, climb}
+use Rattle.walk.specs.Chains.{multiples, risingFrom}
 use Rattle.table.specs.Table.{TableOf}
 use Rattle.table.specs.Descent.{upTo, descent, rowsBelow, allBudgets}
 use Rattle.table.proofs.Descent.{descent-table, no-rows}
@@ -52,7 +53,7 @@ unfolding profileA job verdictOf judgeJob judgeIntervalAndStiffness firstRefused
 sound = refl
 
 rows-are : rowsBelow (jobsOf profileA) allBudgets ≡ rowsA
-unfolding profileA job rowsA three descent upTo walkBy visit pick beats multiples risingFrom climb load cost rate jobLoss entries
+unfolding profileA job rowsA three descent upTo walkBy visit pick beats multiples risingFrom climbTo inTurn load cost rate jobLoss entries
 rows-are = refl
 
 table-is : TableOf (jobsOf profileA) rowsA

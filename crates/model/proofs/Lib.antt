@@ -1,5 +1,6 @@
 pub mod Allowing
 pub mod Bounds
+pub mod Climb
 pub mod Entries
 pub mod Lists
 pub mod Numbers

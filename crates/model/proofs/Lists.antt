@@ -2,8 +2,8 @@
 -- Assumes nothing.
 use mathlib.Core.Path.{_≡_, refl, sym, _∙_, ap₂, subst}
 use mathlib.Core.Logic.{_⊎_, inl, inr, ⊎-elim}
-use mathlib.Core.List.{List, [], _∷_, _++_, flatMap}
-use mathlib.Core.List.{List·Memᴰ, List·Memᴰ·head, List·Memᴰ·tail, List·Memᴰ·not-nil, List·Memᴰ·cases-cons, Memᴰ·append-left, Memᴰ·append-right, Memᴰ·cast, List·Memᴰ·append-cases}
+use mathlib.Core.List.{List, [], _∷_, _++_, map, flatMap}
+use mathlib.Core.List.{List·Memᴰ, List·Memᴰ·head, List·Memᴰ·tail, List·Memᴰ·not-nil, List·Memᴰ·cases-cons, Memᴰ·append-left, Memᴰ·append-right, Memᴰ·cast, Memᴰ·of-map, List·Memᴰ·append-cases}
 use Rattle.model.specs.Model.{Rising}
 
 -- what stands in a joined list stands in one of its parts, and the other way round
@@ -28,6 +28,15 @@ flat-has {A} {B} f {y} {x} (a ∷ xs) m n = ⊎-elim here (λ k. Memᴰ·append-
 -- every entry of the one list stands in the other
 abbrev pub Holds : {A : Type 0} → List A → List A → Type 0
 Holds {A} xs ys = (x : A) → List·Memᴰ x xs → List·Memᴰ x ys
+
+-- a function that keeps an order keeps a list rising
+pub rising-map : {A B : Type 0} {R : A → A → Type 0} (S : B → B → Type 0) (f : A → B) → ((x y : A) → R x y → S (f x) (f y))
+    → (xs : List A) → Rising R xs → Rising S (map f xs)
+rising-map S f keeps [] h = tt
+rising-map {A} {B} S f keeps (x ∷ xs) h = (later, rising-map S f keeps xs (h .1))
+  where
+    later : (y : B) → List·Memᴰ y (map f xs) → S (f x) y
+    later y m = let r = Memᴰ·of-map f xs m in subst (S (f x)) (r .2) (keeps x (r .0) (h .0 (r .0) (r .1)))
 
 module _ {A : Type 0} (R : A → A → Type 0) where
   pub rising-append : (xs ys : List A) → Rising R xs → Rising R ys → ((x y : A) → List·Memᴰ x xs → List·Memᴰ y ys → R x y) → Rising R (xs ++ ys)

@@ -1,3 +1,4 @@
+pub mod Climb
 pub mod Model
 pub mod Most
 pub mod Testing

@@ -1,93 +1,66 @@
 -- The multiples of a period in an interval are the periods allowed there; so the chains are the permitted lists, and rising multiples make them sorted.
 -- Assumes nothing.
-use mathlib.Core.Path.{_≡_, refl, sym, _∙_, ap, subst}
-use mathlib.Core.Logic.{⊎-elim}
-use mathlib.Core.List.{List, [], _∷_, map, List·Memᴰ, List·Memᴰ·head, List·Memᴰ·tail, List·Memᴰ·not-nil, List·Memᴰ·cases-cons, List·Memᴰ·eq-of-singleton, Memᴰ·map, Memᴰ·of-map}
-use Prim.Native.Nat.{ℕ, zero, suc, _+_, _*_, _-_, _/_, _≤_, _<_}
+use mathlib.Core.Path.{_≡_, refl, sym, ap, subst}
+use mathlib.Core.List.{List, [], _∷_, map, List·Memᴰ, List·Memᴰ·head, List·Memᴰ·not-nil, List·Memᴰ·eq-of-singleton, Memᴰ·map, Memᴰ·of-map}
+use Prim.Native.Nat.{_+_, _*_, _/_, _≤_, _<_}
 use native.Mathlib.Omega.{arith}
-use native.Mathlib.Nat.{le-div-iff-mul-le, div-mul-le-self, mul-le-mul-right, mul-mod-left, div-zero, add-div-right, div-eq-of-lt}
+use native.Mathlib.Nat.{le-trans, le-div-iff-mul-le, div-mul-le-self, mul-le-mul-right, mul-mod-left}
 use Rattle.model.specs.declared.Seconds.{Seconds}
 use Rattle.model.specs.declared.Job.{Job}
 use Rattle.model.specs.Model.{seconds, Allowed, PermittedAfter, roundUp}
+use Rattle.model.specs.Climb.{climbTo}
 use Rattle.model.specs.Valid.{ValidJobs}
-use Rattle.model.proofs.Lists.{in-flat, flat-has}
-use Rattle.walk.specs.Chains.{firstTry, lastTry, climb, risingFrom, multiples, chainsBy, chains}
-use Rattle.model.proofs.Rounding.{round-up-le, round-up-above, multiple-is, split-product}
+use Rattle.model.proofs.Climb.{MultipleIn, climb-step, climb-end, climb-from, climb-rising, climb-in, climb-has}
+use Rattle.model.proofs.Lists.{in-flat, flat-has, rising-map}
+use Rattle.walk.specs.Chains.{firstTry, lastTry, risingFrom, multiples, chainsBy, chains}
+use Rattle.model.proofs.Rounding.{round-up-le, round-up-above, multiple-is}
 use Rattle.walk.specs.Laws.{Sorted, ListsAllowed}
 use Rattle.walk.proofs.Sorted.{RisingPeriods, sorted-flat}
-
-climb-in : (p t k : ℕ) {u : Seconds} → List·Memᴰ u (climb p t k) → (i : ℕ) × (i < k) × (u .0 ≡ t + i * p)
-unfolding climb
-climb-in p t zero m = absurd (List·Memᴰ·not-nil m)
-climb-in p t (suc k) {u} m = ⊎-elim here (λ n. later (climb-in p (t + p) k n)) (List·Memᴰ·cases-cons m)
-  where
-    here : u ≡ seconds t → (i : ℕ) × (i < suc k) × (u .0 ≡ t + i * p)
-    here e = let d : u .0 ≡ t = ap (λ (s : Seconds). s .0) e in (0, omega arith, omega arith)
-
-    later : (i : ℕ) × (i < k) × (u .0 ≡ t + p + i * p) → (i : ℕ) × (i < suc k) × (u .0 ≡ t + i * p)
-    later r = (suc (r .0), omega arith, omega arith)
-
-climb-has : (p t k i : ℕ) {u : Seconds} → i < k → u .0 ≡ t + i * p → List·Memᴰ u (climb p t k)
-unfolding climb
-climb-has p t zero i h e = absurd (omega arith)
-climb-has p t (suc k) zero {u} h e = let d : u .0 ≡ t = omega arith in List·Memᴰ·head (ap seconds d)
-climb-has p t (suc k) (suc i) h e = List·Memᴰ·tail (climb-has p (t + p) k i (omega arith) (omega arith))
-
-climb-rising : (p t k : ℕ) → 1 ≤ p → RisingPeriods (climb p t k)
-unfolding climb
-climb-rising p t zero h = tt
-climb-rising p t (suc k) h = (λ u m. let r = climb-in p (t + p) k m in omega arith, climb-rising p (t + p) k h)
 
 -- the loop over multiples: one more step, or the end
 module _ (before last t : Seconds) (pos : 1 ≤ before .0) where
   pub rising-step : t .0 ≤ last .0 → risingFrom before last t ≡ t ∷ risingFrom before last (seconds (t .0 + before .0))
-  unfolding risingFrom climb
-  rising-step h =
-      let p = before .0 in
-      let left = last .0 - t .0 in
-      let a : last .0 + p - t .0 ≡ left + p = omega arith in
-      let b : last .0 + p - (t .0 + p) ≡ left = omega arith in
-      let d : (left + p) / p ≡ left / p + 1 = add-div-right left pos in
-      let e : (last .0 + p - t .0) / p ≡ suc ((last .0 + p - (t .0 + p)) / p) = rw (a, b) (omega arith) in
-      ap (climb p (t .0)) e
+  unfolding risingFrom
+  rising-step h = ap (map seconds) (climb-step (before .0) pos (last .0) (t .0) h)
 
   pub rising-end : last .0 < t .0 → risingFrom before last t ≡ []
-  unfolding risingFrom climb
-  rising-end h =
-      let less : last .0 + before .0 - t .0 < before .0 = omega arith in
-      ap (climb (before .0) (t .0)) (div-eq-of-lt less)
+  unfolding risingFrom
+  rising-end h = ap (map seconds) (climb-end (before .0) pos (last .0) (t .0) h)
 
 -- what is still to come is no smaller
 pub rising-from : (before last t : Seconds) {u : Seconds} → List·Memᴰ u (risingFrom before last t) → t .0 ≤ u .0
 unfolding risingFrom
-rising-from before last t m = let r = climb-in (before .0) (t .0) _ m in omega arith
+rising-from before last t m =
+    let r = Memᴰ·of-map seconds (climbTo (before .0) (last .0) (t .0)) m in
+    subst (λ (u : Seconds). t .0 ≤ u .0) (r .2) (climb-from (before .0) (last .0) (t .0) (r .1))
+
+-- the multiples from the first to the last period that may be tried are those that are allowed
+pub tries-only : {before : Seconds} {j : Job} {t : Seconds} → 1 ≤ before .0 → MultipleIn (before .0) (firstTry before j .0) (lastTry before j .0) (t .0) → Allowed j before t
+tries-only {before} {j} pos m =
+    let from : j .lo .0 ≤ firstTry before j .0 = round-up-above (j .lo .0) pos in
+    let to : lastTry before j .0 ≤ j .hi .0 = div-mul-le-self (j .hi .0) (before .0) in
+    record { above = le-trans from (m .from); below = le-trans (m .to) to; multiple = rw (m .is, mul-mod-left) }
+
+pub tries-all : {before : Seconds} {j : Job} {t : Seconds} → 1 ≤ before .0 → Allowed j before t → MultipleIn (before .0) (firstTry before j .0) (lastTry before j .0) (t .0)
+tries-all {before} {j} {t} pos a =
+    let p = before .0 in
+    let y = t .0 / p in
+    let is : t .0 ≡ y * p = multiple-is (t .0) p (a .multiple) in
+    let least : roundUp (j .lo .0) p ≤ y = round-up-le (j .lo .0) y pos .1 (rw (← is) (a .above)) in
+    let most : y ≤ j .hi .0 / p = le-div-iff-mul-le pos .1 (rw (← is) (a .below)) in
+    let from : firstTry before j .0 ≤ y * p = mul-le-mul-right p least in
+    let to : y * p ≤ lastTry before j .0 = mul-le-mul-right p most in
+    record { times = y; is = is; from = omega arith; to = omega arith }
 
 multiples-only : {before : Seconds} {j : Job} {t : Seconds} → 1 ≤ before .0 → List·Memᴰ t (multiples before j) → Allowed j before t
 unfolding multiples risingFrom
-multiples-only {before} {j} {t} pos m =
-    let p = before .0 in
-    let q = roundUp (j .lo .0) p in
-    let r = climb-in p (q * p) _ m in
-    let i = r .0 in
-    let fits : suc i * p ≤ lastTry before j .0 + p - q * p = le-div-iff-mul-le pos .0 (r .1) in
-    let from : j .lo .0 ≤ q * p = round-up-above (j .lo .0) pos in
-    let to : lastTry before j .0 ≤ j .hi .0 = div-mul-le-self (j .hi .0) p in
-    let is : t .0 ≡ (q + i) * p = omega arith in
-    record { above = omega arith; below = omega arith; multiple = rw (is, mul-mod-left) }
+multiples-only {before} {j} pos m =
+    let r = Memᴰ·of-map seconds (climbTo (before .0) (lastTry before j .0) (firstTry before j .0)) m in
+    subst (Allowed j before) (r .2) (tries-only pos (climb-in (before .0) pos (lastTry before j .0) (roundUp (j .lo .0) (before .0)) (r .1)))
 
 multiples-all : {before : Seconds} {j : Job} {t : Seconds} → 1 ≤ before .0 → Allowed j before t → List·Memᴰ t (multiples before j)
 unfolding multiples risingFrom
-multiples-all {before} {j} {t} pos a =
-    let p = before .0 in
-    let q = roundUp (j .lo .0) p in
-    let is : t .0 ≡ t .0 / p * p = multiple-is (t .0) p (a .multiple) in
-    let le : q ≤ t .0 / p = round-up-le (j .lo .0) (t .0 / p) pos .1 (rw (← is) (a .above)) in
-    let i = t .0 / p - q in
-    let sum : t .0 ≡ q * p + i * p = is ∙ split-product p le in
-    let most : t .0 / p ≤ j .hi .0 / p = le-div-iff-mul-le pos .1 (rw (← is) (a .below)) in
-    let to : t .0 / p * p ≤ lastTry before j .0 = mul-le-mul-right p most in
-    let fits : suc i * p ≤ lastTry before j .0 + p - q * p = omega arith in
-    climb-has p (q * p) _ i (le-div-iff-mul-le pos .1 fits) sum
+multiples-all {before} {j} pos a = Memᴰ·map seconds (climb-has (before .0) pos (lastTry before j .0) (roundUp (j .lo .0) (before .0)) (tries-all pos a))
 
 pub multiples-lists : ListsAllowed multiples
 multiples-lists = record { only = multiples-only; all = multiples-all }
@@ -115,14 +88,11 @@ module _ {periods : Seconds → Job → List Seconds} (law : ListsAllowed period
       let next : 1 ≤ t .0 = omega arith in
       flat-has (λ (u : Seconds). map (λ us. u ∷ us) (chainsBy periods u js)) (periods before j) (law .all pos (h .0)) (Memᴰ·map (λ (us : List Seconds). t ∷ us) (chains-all js ts (v .1) next (h .1)))
 
-rising-at : (last p t : ℕ) → RisingPeriods (climb p t ((last + p - t) / p))
-unfolding climb
-rising-at last zero t = rw (div-zero (last + 0 - t)) tt
-rising-at last (suc p) t = climb-rising (suc p) t ((last + suc p - t) / suc p) (omega arith)
-
 pub multiples-rising : (before : Seconds) (j : Job) → RisingPeriods (multiples before j)
 unfolding multiples risingFrom
-multiples-rising before j = rising-at (lastTry before j .0) (before .0) (firstTry before j .0)
+multiples-rising before j =
+    let rising = climb-rising (before .0) (lastTry before j .0) (firstTry before j .0) in
+    rising-map (λ (t u : Seconds). t .0 < u .0) seconds (λ t u less. less) (climbTo (before .0) (lastTry before j .0) (firstTry before j .0)) rising
 
 -- the chains stand in lexicographic order, each once
 pub chains-sorted : (before : Seconds) (js : List Job) → Sorted (chains before js)

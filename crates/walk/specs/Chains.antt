@@ -1,10 +1,11 @@
 -- The periods that a job may try after the one before, and all permitted lists in the order of the walk: job by job, those periods in
 -- rising order. No public contract cites this. Assumes nothing.
 use mathlib.Core.List.{List, [], _∷_, map, flatMap}
-use Prim.Native.Nat.{ℕ, zero, suc, _+_, _*_, _-_, _/_}
+use Prim.Native.Nat.{_*_, _/_}
 use Rattle.model.specs.declared.Seconds.{Seconds}
 use Rattle.model.specs.declared.Job.{Job}
 use Rattle.model.specs.Model.{seconds, roundUp}
+use Rattle.model.specs.Climb.{climbTo, descendTo}
 
 -- The periods that a job may try after `before` go from this one, the first multiple in its interval ..
 abbrev pub firstTry : Seconds → Job → Seconds
@@ -14,27 +15,17 @@ firstTry before j = seconds (roundUp (j .lo .0) (before .0) * before .0)
 abbrev pub lastTry : Seconds → Job → Seconds
 lastTry before j = seconds (j .hi .0 / before .0 * before .0)
 
--- `k` numbers from `t` on, each `step` above the one before it.
-unfoldable pub climb : ℕ → ℕ → ℕ → List Seconds
-climb step t zero = []
-climb step t (suc k) = seconds t ∷ climb step (t + step) k
-
--- The numbers t, t + before, t + 2 * before .. up to `last`.
+-- The seconds t, t + before, t + 2 * before .. up to `last`.
 unfoldable pub risingFrom : Seconds → Seconds → Seconds → List Seconds
-risingFrom before last t = climb (before .0) (t .0) ((last .0 + before .0 - t .0) / before .0)
+risingFrom before last t = map seconds (climbTo (before .0) (last .0) (t .0))
 
 -- The periods that a job may try, in rising order.
 unfoldable pub multiples : Seconds → Job → List Seconds
 multiples before j = risingFrom before (lastTry before j) (firstTry before j)
 
--- `k` numbers from `t` on, each `step` below the one before it.
-unfoldable pub descend : ℕ → ℕ → ℕ → List Seconds
-descend step t zero = []
-descend step t (suc k) = seconds t ∷ descend step (t - step) k
-
--- The numbers t, t - before, t - 2 * before .. down to `first`.
+-- The seconds t, t - before, t - 2 * before .. down to `first`.
 unfoldable pub fallingFrom : Seconds → Seconds → Seconds → List Seconds
-fallingFrom before first t = descend (before .0) (t .0) ((t .0 + before .0 - first .0) / before .0)
+fallingFrom before first t = map seconds (descendTo (before .0) (first .0) (t .0))
 
 -- The periods that a job may try, in falling order.
 unfoldable pub multiplesDown : Seconds → Job → List Seconds

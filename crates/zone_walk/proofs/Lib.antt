@@ -1,3 +1,2 @@
-pub mod Climbing
 pub mod Copied
 pub mod Walk

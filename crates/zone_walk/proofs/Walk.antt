@@ -12,10 +12,11 @@ use lib.Seq.{getD-set-same, getD-set-other, take-set-le, take-suc-set, drop-set-
 use borrow.Author.Tests.{lt-ltb, le-ltb}
 use mathlib.Core.Logic.{⊎-elim}
 use Rattle.model.specs.Model.{roundUp}
+use Rattle.model.specs.Climb.{climbTo}
+use Rattle.model.proofs.Climb.{climb-step, climb-end}
 use Rattle.model.proofs.Rounding.{round-up-le, round-up-some}
 use Rattle.zone_walk.specs.Zone.{Zone}
-use Rattle.zone_walk.specs.Listing.{Span, upTo, leastFor, greatestFor, firstMultiplier, unlessEmpty, zonesBelow, zonesIn, Walk, walk, spanAt, spansFrom, under, tries, after, opened, coming, Kept, Spans, Sized, Opens, Tries, WentOn}
-use Rattle.zone_walk.proofs.Climbing.{up-to-step, up-to-end}
+use Rattle.zone_walk.specs.Listing.{Span, leastFor, greatestFor, firstMultiplier, unlessEmpty, zonesBelow, zonesIn, Walk, walk, spanAt, spansFrom, under, tries, after, opened, coming, Kept, Spans, Sized, Opens, Tries, WentOn}
 
 -- the weight of a multiplier at place i: more than all that can be tried at the places after it
 place : ℕ → ℕ
@@ -91,7 +92,7 @@ module _ (w : Walk) (i m l g : ℕ) (pos : 1 ≤ i) where
   unfolding tries
   tries-put j v h =
       rw (getD-set-other (w .multipliers) i (j - 1) m 0 (λ e. omega arith), getD-set-other (w .least) i (j - 1) l 0 (λ e. omega arith))
-      (ap (λ (f : ℕ → List Zone). flatMap f (upTo (getD (w .multipliers) (j - 1) 0) (getD (w .longest) j 0 / getD (w .least) (j - 1) 0) v)) (λ d x. under-put j x h d))
+      (ap (λ (f : ℕ → List Zone). flatMap f (climbTo (getD (w .multipliers) (j - 1) 0) (getD (w .longest) j 0 / getD (w .least) (j - 1) 0) v)) (λ d x. under-put j x h d))
 
   after-put : (j : ℕ) → j ≤ i → after (put w i m l g) j ≡ after w j
   unfolding after
@@ -110,11 +111,11 @@ module _ (w : Walk) (i m : ℕ) (pos : 1 ≤ getD (w .multipliers) (i - 1) 0) wh
   -- no multiplier is left for the job at place i
   pub past-last : getD (w .longest) i 0 / getD (w .least) (i - 1) 0 < m → tries w i m ++ after w i ≡ after w i
   unfolding tries flatMap
-  past-last h = ap (λ (l : List ℕ). flatMap (under w i) l ++ after w i) (up-to-end (getD (w .multipliers) (i - 1) 0) _ m pos h)
+  past-last h = ap (λ (l : List ℕ). flatMap (under w i) l ++ after w i) (climb-end (getD (w .multipliers) (i - 1) 0) pos _ m h)
 
   one-tried : m ≤ getD (w .longest) i 0 / getD (w .least) (i - 1) 0 → tries w i m ≡ under w i m ++ tries w i (m + getD (w .multipliers) (i - 1) 0)
   unfolding tries flatMap
-  one-tried h = ap (flatMap (under w i)) (up-to-step (getD (w .multipliers) (i - 1) 0) _ m pos h)
+  one-tried h = ap (flatMap (under w i)) (climb-step (getD (w .multipliers) (i - 1) 0) pos _ m h)
 
   -- m leaves no first period
   pub none-under : m ≤ getD (w .longest) i 0 / getD (w .least) (i - 1) 0

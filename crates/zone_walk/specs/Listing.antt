@@ -9,6 +9,7 @@ use lib.Dec.{ltb}
 use Rattle.model.specs.declared.Job.{Job}
 use Rattle.model.specs.declared.Profile.{Profile}
 use Rattle.model.specs.Model.{seconds, noJob, roundUp}
+use Rattle.model.specs.Climb.{climbTo}
 use Rattle.zone_walk.specs.Zone.{Zone}
 
 -- The two ends of a job's interval.
@@ -18,15 +19,6 @@ pub record Span : Type 0 where
 
 abbrev pub spanOf : Job → Span
 spanOf j = record { shortest = j .lo .0; longest = j .hi .0 }
-
--- `k` numbers from `m` on, each `step` above the one before it.
-unfoldable pub climb : ℕ → ℕ → ℕ → List ℕ
-climb step m zero = []
-climb step m (suc k) = m ∷ climb step (m + step) k
-
--- The numbers m, m + step, m + 2 * step .. up to `last`.
-unfoldable pub upTo : ℕ → ℕ → ℕ → List ℕ
-upTo step last m = climb step m ((last + step - m) / step)
 
 -- The smallest multiplier to try after `a`, where first periods are at most `greatest`.
 abbrev pub firstMultiplier : Span → ℕ → ℕ → ℕ
@@ -48,7 +40,7 @@ unfoldable pub zonesBelow : List Span → List ℕ → ℕ → ℕ → ℕ → L
 zonesBelow [] chosen least greatest a = record { least = seconds least; greatest = seconds greatest; multipliers = chosen } ∷ []
 zonesBelow (s ∷ ss) chosen least greatest a =
     flatMap (λ m. unlessEmpty (ltb (greatestFor s greatest m) (leastFor s least m)) (zonesBelow ss (chosen ++ (m ∷ [])) (leastFor s least m) (greatestFor s greatest m) m))
-    (upTo a (s .longest / least) (firstMultiplier s greatest a))
+    (climbTo a (s .longest / least) (firstMultiplier s greatest a))
 
 -- All zones: the first job has the multiplier 1.
 unfoldable pub zonesIn : List Span → List Zone
@@ -88,7 +80,7 @@ under w i m =
 
 -- The zones with multiplier m, or a later one, for the job at place i.
 unfoldable pub tries : Walk → ℕ → ℕ → List Zone
-tries w i m = flatMap (under w i) (upTo (getD (w .multipliers) (i - 1) 0) (getD (w .longest) i 0 / getD (w .least) (i - 1) 0) m)
+tries w i m = flatMap (under w i) (climbTo (getD (w .multipliers) (i - 1) 0) (getD (w .longest) i 0 / getD (w .least) (i - 1) 0) m)
 
 -- The zones after all those that begin with the first i multipliers.
 unfoldable pub after : Walk → ℕ → List Zone

@@ -12,10 +12,11 @@ use lib.Dec.{ltb}
 use borrow.Author.Tests.{ltb-false}
 use Rattle.model.specs.declared.Job.{Job}
 use Rattle.model.specs.Model.{roundUp}
+use Rattle.model.specs.Climb.{inTurn, climb, climbTo}
 use Rattle.model.specs.Valid.{ValidJobs}
 use Rattle.model.proofs.Rounding.{round-up-some}
 use Rattle.zone_walk.specs.Zone.{Zone}
-use Rattle.zone_walk.specs.Listing.{spanOf, climb, upTo, leastFor, greatestFor, unlessEmpty, zonesBelow, zonesIn, zonesFor}
+use Rattle.zone_walk.specs.Listing.{spanOf, leastFor, greatestFor, unlessEmpty, zonesBelow, zonesIn, zonesFor}
 
 -- the terms from the j + 1-th on: each is at most C times a square, and the k-th root times k is at most M
 halves : (j C M q x rest : ℕ) → suc j * q ≤ M → x ≤ C * (q * q) → suc j * rest ≤ C * (M * M) → j * (x + rest) ≤ C * (M * M)
@@ -41,7 +42,7 @@ module _ (f : ℕ → List Zone) (C : ℕ) (few : (m : ℕ) → length (f m) ≤
       le-div-iff-mul-le pos .1 (omega arith)
 
   tail-few : (j c : ℕ) → j * length (flatMap f (climb a (suc j * a) c)) ≤ C * (3600 / a * (3600 / a))
-  unfolding climb flatMap
+  unfolding inTurn flatMap
   tail-few j zero = omega arith
   tail-few j (suc c) =
       let next : suc j * a + a ≡ suc (suc j) * a = omega arith in
@@ -50,7 +51,7 @@ module _ (f : ℕ → List Zone) (C : ℕ) (few : (m : ℕ) → length (f m) ≤
       rw (length-append (f (suc j * a)) (flatMap f (climb a (suc j * a + a) c))) (halves j C (3600 / a) (3600 / (suc j * a)) (length (f (suc j * a))) rest (root (suc j) (omega arith)) (few (suc j * a)) ih)
 
   all-few : (i c : ℕ) → 1 ≤ i → length (flatMap f (climb a (i * a) c)) ≤ 2 * (C * (3600 / a * (3600 / a)))
-  unfolding climb flatMap
+  unfolding inTurn flatMap
   all-few zero c h = absurd (omega arith)
   all-few (suc zero) zero h = omega arith
   all-few (suc zero) (suc c) h =
@@ -76,7 +77,7 @@ open-few false zs b h = h refl
 
 below-few : (js : List Job) (chosen : List ℕ) (least greatest a : ℕ) → ValidJobs js → 1 ≤ least → least ≤ greatest → 1 ≤ a → a ≤ 3600
     → length (zonesBelow (map spanOf js) chosen least greatest a) ≤ 2 ^ length js * (3600 / a * (3600 / a))
-unfolding zonesBelow upTo
+unfolding zonesBelow climbTo
 below-few [] chosen least greatest a v l g pos top =
     let some : 1 ≤ 3600 / a = le-div-iff-mul-le pos .1 (omega arith) in
     let square : 1 * 1 ≤ 3600 / a * (3600 / a) = mul-le-mul some some in

@@ -7,21 +7,22 @@ use mathlib.Core.List.{List, [], _∷_, _++_, map, flatMap, append-nil}
 use mathlib.Core.List.{List·Memᴰ, List·Memᴰ·head, List·Memᴰ·not-nil, List·Memᴰ·eq-of-singleton, Memᴰ·cast}
 use Prim.Native.Nat.{ℕ, suc, _*_, _/_, _%_, _≤_}
 use native.Mathlib.Omega.{arith}
-use native.Mathlib.Nat.{le-refl, le-trans, le-div-iff-mul-le, mul-mod-left, mod-one, div-add-mod', mul-pos, mul-assoc, mul-le-mul-left}
+use native.Mathlib.Nat.{le-refl, le-trans, le-div-iff-mul-le, mul-mod-left, mod-one, div-add-mod', mul-pos, mul-assoc, mul-le-mul-left, mul-le-mul-right}
 use lib.ListN.{length, getD}
 use lib.Seq.{append-snoc}
 use lib.Dec.{ltb}
 use borrow.Author.Tests.{le-ltb, ltb-false}
 use Rattle.model.specs.declared.Job.{Job}
 use Rattle.model.specs.Model.{seconds, roundUp, Permitted}
+use Rattle.model.specs.Climb.{climbTo}
 use Rattle.model.specs.Valid.{ValidJobs}
+use Rattle.model.proofs.Climb.{RisingNumbers, climb-rising, climb-in, climb-has}
 use Rattle.model.proofs.Rounding.{round-up-le, round-up-some}
 use Rattle.model.proofs.Lists.{in-flat, flat-has, rising-append}
 use Rattle.zone_walk.specs.Zone.{Zone}
 use Rattle.zones.specs.Zones.{periodsFor, IsZone, Before, ZonesOf}
 use Rattle.zones.specs.Multipliers.{MultiplesAfter, InIntervals, ByMultipliers}
-use Rattle.zone_walk.specs.Listing.{Span, spanOf, upTo, firstMultiplier, leastFor, greatestFor, unlessEmpty, zonesBelow, zonesIn, zonesFor}
-use Rattle.zone_walk.proofs.Climbing.{RisingNumbers, up-to-rising, up-to-in, up-to-has}
+use Rattle.zone_walk.specs.Listing.{Span, spanOf, firstMultiplier, leastFor, greatestFor, unlessEmpty, zonesBelow, zonesIn, zonesFor}
 use Rattle.zones.specs.Lies.{InRange, ZonesRise}
 use Rattle.zones.proofs.Multipliers.{as-many, zone-by-multipliers}
 use Rattle.zones.proofs.Ranges.{narrowed, narrows, in-nonempty, in-open}
@@ -76,19 +77,19 @@ unfolding zonesBelow
 below-only [] chosen least greatest a v l g pos i = subst (Below [] chosen least greatest a) (sym (List·Memᴰ·eq-of-singleton i)) (here chosen least greatest a g)
 below-only (j ∷ js) chosen least greatest a {z} v l g pos i =
     let s = spanOf j in
-    let r = in-flat (under (map spanOf js) s chosen least greatest) (upTo a (s .longest / least) (firstMultiplier s greatest a)) i in
+    let r = in-flat (under (map spanOf js) s chosen least greatest) (climbTo a (s .longest / least) (firstMultiplier s greatest a)) i in
     let m = r .0 in
     let q = roundUp (j .lo .0) (a * greatest) in
-    let u = up-to-in a (s .longest / least) q pos (r .1) in
+    let u = climb-in a pos (s .longest / least) q (r .1) in
     let k = in-nonempty (ltb (greatestFor s greatest m) (leastFor s least m)) (r .2) in
     let some : 1 ≤ q = round-up-some (v .0 .lo-from) (mul-pos pos (omega arith)) in
-    let pos-m : 1 ≤ m = subst (λ (x : ℕ). 1 ≤ x) (sym (u .2)) (mul-pos (omega arith) pos) in
-    let step : m % a ≡ 0 = subst (λ (x : ℕ). x % a ≡ 0) (sym (u .2)) (mul-mod-left (u .0) a) in
+    let pos-m : 1 ≤ m = le-trans (mul-pos some pos) (u .from) in
+    let step : m % a ≡ 0 = rw (u .is) (mul-mod-left (u .times) a) in
     onward j js chosen least greatest a m z pos-m step (below-only js (chosen ++ (m ∷ [])) (leastFor s least m) (greatestFor s greatest m) m (v .1) (omega arith) (ltb-false _ _ (k .0)) pos-m (k .1))
 
 -- a multiplier that some first period of the range allows is among those tried
 multiplier-listed : (s : Span) (least greatest a m t : ℕ) → 1 ≤ least → 1 ≤ a → m % a ≡ 0 → least ≤ t → t ≤ greatest → s .shortest ≤ m * t → m * t ≤ s .longest
-    → List·Memᴰ m (upTo a (s .longest / least) (firstMultiplier s greatest a))
+    → List·Memᴰ m (climbTo a (s .longest / least) (firstMultiplier s greatest a))
 multiplier-listed s least greatest a m t l pos e from to above below =
     let q = roundUp (s .shortest) (a * greatest) in
     let k = m / a in
@@ -98,7 +99,8 @@ multiplier-listed s least greatest a m t l pos e from to above below =
     let group : m * greatest ≡ k * (a * greatest) = ap (λ (x : ℕ). x * greatest) is ∙ mul-assoc k a greatest in
     let first : q ≤ k = round-up-le (s .shortest) k (mul-pos {n = greatest} pos (omega arith)) .1 (omega arith) in
     let last : m ≤ s .longest / least = le-div-iff-mul-le l .1 (omega arith) in
-    Memᴰ·cast is (up-to-has a (s .longest / least) q k pos first (omega arith))
+    let from-first : q * a ≤ k * a = mul-le-mul-right a first in
+    climb-has a pos (s .longest / least) q (record { times = k; is = is; from = omega arith; to = last })
 
 -- every list of multipliers that some first period of the range allows is there
 pub below-all : (js : List Job) (chosen more : List ℕ) (least greatest a t : ℕ) → ValidJobs js → 1 ≤ least → 1 ≤ a → MultiplesAfter a more
@@ -113,13 +115,13 @@ below-all (j ∷ js) chosen (m ∷ more) least greatest a t v l pos c from to h 
     let r = below-all js (chosen ++ (m ∷ [])) more (leastFor s least m) (greatestFor s greatest m) m t (v .1) (omega arith) (c .0) (c .2) (n .0) (n .1) (h .2) in
     let some : ltb (greatestFor s greatest m) (leastFor s least m) ≡ false = le-ltb _ _ (le-trans (n .0) (n .1)) in
     let i : List·Memᴰ (r .0) (under (map spanOf js) s chosen least greatest m) = in-open (ltb (greatestFor s greatest m) (leastFor s least m)) some (r .1) in
-    (r .0, flat-has (under (map spanOf js) s chosen least greatest) (upTo a (s .longest / least) (firstMultiplier s greatest a)) (multiplier-listed s least greatest a m t l pos (c .1) from to (h .0) (h .1)) i, r .2 ∙ append-snoc chosen m more)
+    (r .0, flat-has (under (map spanOf js) s chosen least greatest) (climbTo a (s .longest / least) (firstMultiplier s greatest a)) (multiplier-listed s least greatest a m t l pos (c .1) from to (h .0) (h .1)) i, r .2 ∙ append-snoc chosen m more)
 
 starts : (ss : List Span) (chosen : List ℕ) (least greatest a : ℕ) {z : Zone} → List·Memᴰ z (zonesBelow ss chosen least greatest a) → (more : List ℕ) × (z .multipliers ≡ chosen ++ more)
 unfolding zonesBelow
 starts [] chosen least greatest a i = ([], ap (λ (z : Zone). z .multipliers) (List·Memᴰ·eq-of-singleton i) ∙ sym (append-nil chosen))
 starts (s ∷ ss) chosen least greatest a i =
-    let r = in-flat (under ss s chosen least greatest) (upTo a (s .longest / least) (firstMultiplier s greatest a)) i in
+    let r = in-flat (under ss s chosen least greatest) (climbTo a (s .longest / least) (firstMultiplier s greatest a)) i in
     let m = r .0 in
     let b = starts ss (chosen ++ (m ∷ [])) (leastFor s least m) (greatestFor s greatest m) m (in-nonempty (ltb (greatestFor s greatest m) (leastFor s least m)) (r .2) .1) in
     (m ∷ b .0, b .1 ∙ append-snoc chosen m (b .0))
@@ -152,7 +154,7 @@ unfolding zonesBelow
 below-rising [] chosen least greatest a = (λ y i. absurd (List·Memᴰ·not-nil i), tt)
 below-rising (s ∷ ss) chosen least greatest a =
     rising-parts ss s chosen least greatest (λ m. rising-open (ltb (greatestFor s greatest m) (leastFor s least m)) _ (below-rising ss (chosen ++ (m ∷ [])) (leastFor s least m) (greatestFor s greatest m) m))
-    (upTo a (s .longest / least) (firstMultiplier s greatest a)) (up-to-rising a (s .longest / least) (firstMultiplier s greatest a))
+    (climbTo a (s .longest / least) (firstMultiplier s greatest a)) (climb-rising a (s .longest / least) (firstMultiplier s greatest a))
 
 -- two zones of the same jobs with the same multipliers are one
 pub same-zone : (js : List Job) {y z : Zone} → IsZone js y → IsZone js z → y .multipliers ≡ z .multipliers → y ≡ z
