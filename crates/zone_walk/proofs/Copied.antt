@@ -24,7 +24,8 @@ pub record Copied (jobs : List Job) (k : ℕ) (shortest longest : List ℕ) : Ty
 pub none-copied : (jobs : List Job) (shortest longest : List ℕ) → length shortest ≡ 8 → length longest ≡ 8 → Copied jobs 0 shortest longest
 none-copied jobs shortest longest s l = record { shortest-size = s; longest-size = l; each = λ j h. absurd (omega arith) }
 
-pub one-copied : (jobs : List Job) (k : ℕ) (shortest longest : List ℕ) → k < 8 → Copied jobs k shortest longest → Copied jobs (k + 1) (set shortest k (getD jobs k noJob .lo .0)) (set longest k (getD jobs k noJob .hi .0))
+pub one-copied : (jobs : List Job) (k : ℕ) (shortest longest : List ℕ) → k < 8 → Copied jobs k shortest longest
+    → Copied jobs (k + 1) (set shortest k (getD jobs k noJob .lo .0)) (set longest k (getD jobs k noJob .hi .0))
 one-copied jobs k shortest longest h c = record {
   shortest-size = length-set shortest k _ ∙ c .shortest-size;
   longest-size = length-set longest k _ ∙ c .longest-size;
@@ -35,12 +36,19 @@ one-copied jobs k shortest longest h c = record {
     below j i = omega arith
 
     here : (j : ℕ) → j ≡ k → spanAt (set shortest k (getD jobs k noJob .lo .0)) (set longest k (getD jobs k noJob .hi .0)) j ≡ spanOf (getD jobs j noJob)
-    here j e = rw (e, getD-set-same shortest k (getD jobs k noJob .lo .0) 0 (omega (arith, c .shortest-size)), getD-set-same longest k (getD jobs k noJob .hi .0) 0 (omega (arith, c .longest-size)))
+    here j e =
+        let lo = getD-set-same shortest k (getD jobs k noJob .lo .0) 0 (omega (arith, c .shortest-size)) in
+        let hi = getD-set-same longest k (getD jobs k noJob .hi .0) 0 (omega (arith, c .longest-size)) in
+        rw (e, lo, hi)
 
     earlier : (j : ℕ) → j < k → spanAt (set shortest k (getD jobs k noJob .lo .0)) (set longest k (getD jobs k noJob .hi .0)) j ≡ spanOf (getD jobs j noJob)
-    earlier j i = rw (getD-set-other shortest k j (getD jobs k noJob .lo .0) 0 (λ e. omega arith), getD-set-other longest k j (getD jobs k noJob .hi .0) 0 (λ e. omega arith)) (c .each j i)
+    earlier j i =
+        let lo = getD-set-other shortest k j (getD jobs k noJob .lo .0) 0 (λ e. omega arith) in
+        let hi = getD-set-other longest k j (getD jobs k noJob .hi .0) 0 (λ e. omega arith) in
+        rw (lo, hi) (c .each j i)
 
-spans-from : (jobs : List Job) (shortest longest : List ℕ) (i k : ℕ) → ((j : ℕ) → j < i + k → spanAt shortest longest j ≡ spanOf (getD jobs j noJob)) → spansFrom shortest longest i k ≡ map spanOf (entries noJob jobs i k)
+spans-from : (jobs : List Job) (shortest longest : List ℕ) (i k : ℕ) → ((j : ℕ) → j < i + k → spanAt shortest longest j ≡ spanOf (getD jobs j noJob))
+    → spansFrom shortest longest i k ≡ map spanOf (entries noJob jobs i k)
 unfolding spansFrom entries
 spans-from jobs shortest longest i zero h = refl
 spans-from jobs shortest longest i (suc k) h = ap₂ _∷_ (h i (omega arith)) (spans-from jobs shortest longest (i + 1) k (λ j l. h j (omega arith)))

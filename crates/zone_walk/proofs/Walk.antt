@@ -3,7 +3,7 @@
 use mathlib.Core.Path.{_≡_, refl, sym, _∙_, ap, ap₂}
 use mathlib.Core.Bool.{Bool, true, false}
 use mathlib.Core.List.{List, [], _∷_, _++_, flatMap, append-assoc, append-nil}
-use Prim.Native.Nat.{ℕ, zero, suc, _+_, _*_, _-_, _/_, _^_, _≤_, _<_}
+use Prim.Native.Nat.{ℕ, zero, suc, _+_, _*_, _-_, _^_, _≤_, _<_}
 use native.Mathlib.Omega.{arith}
 use native.Mathlib.Nat.{pow-succ', mul-le-mul, mul-le-mul-left, mul-le-mul-right, one-le-mul, div-le-self, eq-or-lt-of-le}
 use native.Mathlib.Numerals.{add-one}
@@ -16,7 +16,9 @@ use Rattle.model.specs.Climb.{climbTo}
 use Rattle.model.proofs.Climb.{climb-step, climb-end}
 use Rattle.model.proofs.Rounding.{round-up-le, round-up-some}
 use Rattle.zone_walk.specs.Zone.{Zone}
-use Rattle.zone_walk.specs.Listing.{Span, leastFor, greatestFor, firstMultiplier, unlessEmpty, zonesBelow, zonesIn, Walk, walk, spanAt, spansFrom, under, tries, after, opened, coming, Kept, Spans, Sized, Opens, Tries, WentOn}
+use Rattle.zone_walk.specs.Listing.{Span, unlessEmpty, zonesBelow, zonesIn, Walk, walk, spanAt, spansFrom, lastChosen, leastLeft, greatestLeft}
+use Rattle.zone_walk.specs.Listing.{firstMultiplierAt, lastMultiplierAt, nextMultiplierAt, leastAt, greatestAt, under, tries, after, opened, coming}
+use Rattle.zone_walk.specs.Listing.{Kept, Spans, Sized, Opens, Tries, WentOn}
 
 -- the weight of a multiplier at place i: more than all that can be tried at the places after it
 place : ℕ → ℕ
@@ -68,11 +70,14 @@ falls-next ms i m a pos h =
 pub falls-open : (ms : List ℕ) (i m : ℕ) → i < 8 → i < length ms → m ≤ 2 ^ 24 → openLeft (set ms i m) (i + 1) < tryLeft ms i m
 unfolding tryLeft openLeft weight
 falls-open ms i m h size top =
-    let one : weight (set ms i m) (i + 1) ≡ weight ms i + (2 ^ 24 - m) * place i = ap (weight (set ms i m)) (add-one i) ∙ ap₂ (λ (a b : ℕ). a + (2 ^ 24 - b) * place i) (weight-set ms i m i (omega arith)) (getD-set-same ms i m 0 size) in
+    let one : weight (set ms i m) (i + 1) ≡ weight ms i + (2 ^ 24 - m) * place i =
+    ap (weight (set ms i m)) (add-one i)
+    ∙ ap₂ (λ (a b : ℕ). a + (2 ^ 24 - b) * place i) (weight-set ms i m i (omega arith)) (getD-set-same ms i m 0 size) in
     let more : 2 ^ 24 + 1 - m ≡ (2 ^ 24 - m) + 1 = omega arith in
     rw (one, more) (omega (arith, place-pos i, place-step i h))
 
-pub falls-back : (ms : List ℕ) (i m prev b : ℕ) → i ≡ suc prev → m ≤ 2 ^ 24 → getD ms prev 0 ≤ 2 ^ 24 → 1 ≤ b → tryLeft ms prev (getD ms prev 0 + b) < tryLeft ms i m
+pub falls-back : (ms : List ℕ) (i m prev b : ℕ) → i ≡ suc prev → m ≤ 2 ^ 24 → getD ms prev 0 ≤ 2 ^ 24 → 1 ≤ b
+    → tryLeft ms prev (getD ms prev 0 + b) < tryLeft ms i m
 unfolding tryLeft weight
 falls-back ms i m prev b e h k pos =
     let less : (2 ^ 24 + 1 - (getD ms prev 0 + b)) * place prev ≤ (2 ^ 24 - getD ms prev 0) * place prev = mul-le-mul-right (place prev) (omega arith) in
@@ -86,45 +91,49 @@ put w i m l g = walk (w .n) (w .shortest) (w .longest) (set (w .multipliers) i m
 module _ (w : Walk) (i m l g : ℕ) (pos : 1 ≤ i) where
   under-put : (j v : ℕ) → j ≤ i → under (put w i m l g) j v ≡ under w j v
   unfolding under
-  under-put j v h = simp (getD-set-other (w .least) i (j - 1) l 0 (λ e. omega arith), getD-set-other (w .greatest) i (j - 1) g 0 (λ e. omega arith), take-set-le j (w .multipliers) i m h)
+  under-put j v h =
+      let least = getD-set-other (w .least) i (j - 1) l 0 (λ e. omega arith) in
+      let greatest = getD-set-other (w .greatest) i (j - 1) g 0 (λ e. omega arith) in
+      simp (least, greatest, take-set-le j (w .multipliers) i m h)
 
   tries-put : (j v : ℕ) → j ≤ i → tries (put w i m l g) j v ≡ tries w j v
   unfolding tries
   tries-put j v h =
       rw (getD-set-other (w .multipliers) i (j - 1) m 0 (λ e. omega arith), getD-set-other (w .least) i (j - 1) l 0 (λ e. omega arith))
-      (ap (λ (f : ℕ → List Zone). flatMap f (climbTo (getD (w .multipliers) (j - 1) 0) (getD (w .longest) j 0 / getD (w .least) (j - 1) 0) v)) (λ d x. under-put j x h d))
+      (ap (λ (f : ℕ → List Zone). flatMap f (climbTo (lastChosen w j) (lastMultiplierAt w j) v)) (λ d x. under-put j x h d))
 
   after-put : (j : ℕ) → j ≤ i → after (put w i m l g) j ≡ after w j
   unfolding after
   after-put zero h = refl
   after-put (suc zero) h = refl
   after-put (suc (suc j)) h =
-      let next : getD (set (w .multipliers) i m) (suc j) 0 + getD (set (w .multipliers) i m) (suc j - 1) 0 ≡ getD (w .multipliers) (suc j) 0 + getD (w .multipliers) (suc j - 1) 0 =
-      ap₂ _+_ (getD-set-other (w .multipliers) i (suc j) m 0 (λ e. omega arith)) (getD-set-other (w .multipliers) i (suc j - 1) m 0 (λ e. omega arith)) in
+      let here = getD-set-other (w .multipliers) i (suc j) m 0 (λ e. omega arith) in
+      let before = getD-set-other (w .multipliers) i (suc j - 1) m 0 (λ e. omega arith) in
+      let next : nextMultiplierAt (put w i m l g) (suc j) ≡ nextMultiplierAt w (suc j) = ap₂ _+_ here before in
       ap₂ _++_ (tries-put (suc j) _ (omega arith) ∙ ap (tries w (suc j)) next) (after-put (suc j) (omega arith))
 
-under-none : (w : Walk) (i m : ℕ) → greatestFor (spanAt (w .shortest) (w .longest) i) (getD (w .greatest) (i - 1) 0) m < leastFor (spanAt (w .shortest) (w .longest) i) (getD (w .least) (i - 1) 0) m → under w i m ≡ []
+under-none : (w : Walk) (i m : ℕ) → greatestAt w i m < leastAt w i m → under w i m ≡ []
 unfolding under unlessEmpty
-under-none w i m e = rw (lt-ltb (greatestFor (spanAt (w .shortest) (w .longest) i) (getD (w .greatest) (i - 1) 0) m) (leastFor (spanAt (w .shortest) (w .longest) i) (getD (w .least) (i - 1) 0) m) e)
+under-none w i m e = rw (lt-ltb (greatestAt w i m) (leastAt w i m) e)
 
-module _ (w : Walk) (i m : ℕ) (pos : 1 ≤ getD (w .multipliers) (i - 1) 0) where
+module _ (w : Walk) (i m : ℕ) (pos : 1 ≤ lastChosen w i) where
   -- no multiplier is left for the job at place i
-  pub past-last : getD (w .longest) i 0 / getD (w .least) (i - 1) 0 < m → tries w i m ++ after w i ≡ after w i
+  pub past-last : lastMultiplierAt w i < m → tries w i m ++ after w i ≡ after w i
   unfolding tries flatMap
-  past-last h = ap (λ (l : List ℕ). flatMap (under w i) l ++ after w i) (climb-end (getD (w .multipliers) (i - 1) 0) pos _ m h)
+  past-last h = ap (λ (l : List ℕ). flatMap (under w i) l ++ after w i) (climb-end (lastChosen w i) pos _ m h)
 
-  one-tried : m ≤ getD (w .longest) i 0 / getD (w .least) (i - 1) 0 → tries w i m ≡ under w i m ++ tries w i (m + getD (w .multipliers) (i - 1) 0)
+  one-tried : m ≤ lastMultiplierAt w i → tries w i m ≡ under w i m ++ tries w i (m + lastChosen w i)
   unfolding tries flatMap
-  one-tried h = ap (flatMap (under w i)) (climb-step (getD (w .multipliers) (i - 1) 0) pos _ m h)
+  one-tried h = ap (flatMap (under w i)) (climb-step (lastChosen w i) pos _ m h)
 
   -- m leaves no first period
-  pub none-under : m ≤ getD (w .longest) i 0 / getD (w .least) (i - 1) 0
-      → greatestFor (spanAt (w .shortest) (w .longest) i) (getD (w .greatest) (i - 1) 0) m < leastFor (spanAt (w .shortest) (w .longest) i) (getD (w .least) (i - 1) 0) m
-      → tries w i m ++ after w i ≡ tries w i (m + getD (w .multipliers) (i - 1) 0) ++ after w i
-  none-under h e = ap (λ (l : List Zone). l ++ after w i) (one-tried h ∙ ap (λ (l : List Zone). l ++ tries w i (m + getD (w .multipliers) (i - 1) 0)) (under-none w i m e))
+  pub none-under : m ≤ lastMultiplierAt w i → greatestAt w i m < leastAt w i m → tries w i m ++ after w i ≡ tries w i (m + lastChosen w i) ++ after w i
+  none-under h e =
+      let rest = tries w i (m + lastChosen w i) in
+      ap (λ (l : List Zone). l ++ after w i) (one-tried h ∙ ap (λ (l : List Zone). l ++ rest) (under-none w i m e))
 
 -- back at the job before
-pub go-back : (w : Walk) (i prev : ℕ) → i ≡ suc prev → (prev ≡ 0 → ⊥) → after w i ≡ tries w prev (getD (w .multipliers) prev 0 + getD (w .multipliers) (prev - 1) 0) ++ after w prev
+pub go-back : (w : Walk) (i prev : ℕ) → i ≡ suc prev → (prev ≡ 0 → ⊥) → after w i ≡ tries w prev (nextMultiplierAt w prev) ++ after w prev
 unfolding after
 go-back w i zero e h = absurd (h refl)
 go-back w i (suc j) e h = ap (after w) e
@@ -133,60 +142,94 @@ pub at-first : (w : Walk) (i prev : ℕ) → i ≡ suc prev → prev ≡ 0 → a
 unfolding after
 at-first w i prev e h = ap (after w) (e ∙ ap suc h)
 
-spans-step : (shortest longest : List ℕ) (i n : ℕ) → i < n → spansFrom shortest longest i (n - i) ≡ spanAt shortest longest i ∷ spansFrom shortest longest (i + 1) (n - (i + 1))
+spans-step : (shortest longest : List ℕ) (i n : ℕ) → i < n
+    → spansFrom shortest longest i (n - i) ≡ spanAt shortest longest i ∷ spansFrom shortest longest (i + 1) (n - (i + 1))
 unfolding spansFrom
 spans-step shortest longest i n h =
     let e : n - i ≡ suc (n - (i + 1)) = omega arith in
     ap (spansFrom shortest longest i) e
 
 -- the next job's smallest multiplier
-pub job-opened : (w : Walk) (i : ℕ) → i < w .n → opened w i ≡ tries w i (firstMultiplier (spanAt (w .shortest) (w .longest) i) (getD (w .greatest) (i - 1) 0) (getD (w .multipliers) (i - 1) 0))
+pub job-opened : (w : Walk) (i : ℕ) → i < w .n → opened w i ≡ tries w i (firstMultiplierAt w i)
 unfolding opened tries under zonesBelow
-job-opened w i h = ap (λ (ss : List Span). zonesBelow ss (take i (w .multipliers)) (getD (w .least) (i - 1) 0) (getD (w .greatest) (i - 1) 0) (getD (w .multipliers) (i - 1) 0)) (spans-step (w .shortest) (w .longest) i (w .n) h)
+job-opened w i h =
+    ap (λ (ss : List Span). zonesBelow ss (take i (w .multipliers)) (leastLeft w i) (greatestLeft w i) (lastChosen w i))
+    (spans-step (w .shortest) (w .longest) i (w .n) h)
 
 -- all jobs are open
 pub all-opened : (w : Walk) → opened w (w .n) ++ after w (w .n) ≡ coming w true
 unfolding opened coming spansFrom zonesBelow
 all-opened w =
     let e : w .n - w .n ≡ 0 = omega arith in
-    ap (λ (k : ℕ). zonesBelow (spansFrom (w .shortest) (w .longest) (w .n) k) (take (w .n) (w .multipliers)) (getD (w .least) (w .n - 1) 0) (getD (w .greatest) (w .n - 1) 0) (getD (w .multipliers) (w .n - 1) 0) ++ after w (w .n)) e
+    let chosen = take (w .n) (w .multipliers) in
+    let least = leastLeft w (w .n) in
+    let greatest = greatestLeft w (w .n) in
+    ap (λ (k : ℕ). zonesBelow (spansFrom (w .shortest) (w .longest) (w .n) k) chosen least greatest (lastChosen w (w .n)) ++ after w (w .n)) e
 
-after-next : (w : Walk) (j : ℕ) → after w (suc j + 1) ≡ tries w (suc j) (getD (w .multipliers) (suc j) 0 + getD (w .multipliers) (suc j - 1) 0) ++ after w (suc j)
+after-next : (w : Walk) (j : ℕ) → after w (suc j + 1) ≡ tries w (suc j) (nextMultiplierAt w (suc j)) ++ after w (suc j)
 unfolding after
 after-next w j = ap (after w) (add-one (suc j))
 
-under-is : (w : Walk) (i m l g : ℕ) → Sized (w .multipliers) (w .least) (w .greatest) → i < 8 → l ≡ leastFor (spanAt (w .shortest) (w .longest) i) (getD (w .least) (i - 1) 0) m → g ≡ greatestFor (spanAt (w .shortest) (w .longest) i) (getD (w .greatest) (i - 1) 0) m → l ≤ g
+under-is : (w : Walk) (i m l g : ℕ) → Sized (w .multipliers) (w .least) (w .greatest) → i < 8 → l ≡ leastAt w i m → g ≡ greatestAt w i m → l ≤ g
     → under w i m ≡ opened (put w i m l g) (i + 1)
 unfolding under opened unlessEmpty
 under-is w i m l g z h el eg some =
     let back : i + 1 - 1 ≡ i = omega arith in
-    let taken : take (i + 1) (set (w .multipliers) i m) ≡ take i (w .multipliers) ++ (m ∷ []) = ap (λ (n : ℕ). take n (set (w .multipliers) i m)) (add-one i) ∙ take-suc-set (w .multipliers) i m (omega arith) in
-    rw (back, taken, getD-set-same (w .multipliers) i m 0 (omega arith), getD-set-same (w .least) i l 0 (omega arith), getD-set-same (w .greatest) i g 0 (omega arith), ← el, ← eg, le-ltb g l some)
+    let ms = set (w .multipliers) i m in
+    let more : take (suc i) ms ≡ take i (w .multipliers) ++ (m ∷ []) = take-suc-set (w .multipliers) i m (omega arith) in
+    let taken : take (i + 1) ms ≡ take i (w .multipliers) ++ (m ∷ []) = ap (λ (n : ℕ). take n ms) (add-one i) ∙ more in
+    let chosen = getD-set-same (w .multipliers) i m 0 (omega arith) in
+    let least = getD-set-same (w .least) i l 0 (omega arith) in
+    let greatest = getD-set-same (w .greatest) i g 0 (omega arith) in
+    rw (back, taken, chosen, least, greatest, ← el, ← eg, le-ltb g l some)
 
 -- m opens the job after
-pub pushed : (w : Walk) (i m l g : ℕ) → Opens w i → i < w .n → l ≡ leastFor (spanAt (w .shortest) (w .longest) i) (getD (w .least) (i - 1) 0) m → g ≡ greatestFor (spanAt (w .shortest) (w .longest) i) (getD (w .greatest) (i - 1) 0) m
-    → m ≤ getD (w .longest) i 0 / getD (w .least) (i - 1) 0 → l ≤ g
+pub pushed : (w : Walk) (i m l g : ℕ) → Opens w i → i < w .n → l ≡ leastAt w i m → g ≡ greatestAt w i m
+    → m ≤ lastMultiplierAt w i → l ≤ g
     → tries w i m ++ after w i ≡ opened (put w i m l g) (i + 1) ++ after (put w i m l g) (i + 1)
 pushed w zero m l g o h el eg last some = absurd (omega arith)
 pushed w (suc j) m l g o h el eg last some =
     let i = suc j in
-    let a = getD (w .multipliers) (i - 1) 0 in
+    let a = lastChosen w i in
     let w′ = put w i m l g in
     let z = o .sized in
     let pos = o .each (i - 1) (omega arith) .multiplier-from in
     let here : under w i m ≡ opened w′ (i + 1) = under-is w i m l g z (omega arith) el eg some in
-    let next : getD (set (w .multipliers) i m) i 0 + getD (set (w .multipliers) i m) (i - 1) 0 ≡ m + a = ap₂ _+_ (getD-set-same (w .multipliers) i m 0 (omega arith)) (getD-set-other (w .multipliers) i (i - 1) m 0 (λ e. omega arith)) in
-    let rest : after w′ (i + 1) ≡ tries w i (m + a) ++ after w i =
-    after-next w′ j ∙ ap₂ _++_ (tries-put w i m l g (omega arith) i _ (omega arith) ∙ ap (tries w i) next) (after-put w i m l g (omega arith) i (omega arith)) in
-    ap (λ (k : List Zone). k ++ after w i) (one-tried w i m pos last) ∙ append-assoc (under w i m) (tries w i (m + a)) (after w i) ∙ ap₂ _++_ here (sym rest)
+    let own = getD-set-same (w .multipliers) i m 0 (omega arith) in
+    let before = getD-set-other (w .multipliers) i (i - 1) m 0 (λ e. omega arith) in
+    let next : nextMultiplierAt w′ i ≡ m + a = ap₂ _+_ own before in
+    let tried : tries w′ i (nextMultiplierAt w′ i) ≡ tries w i (m + a) = tries-put w i m l g (omega arith) i _ (omega arith) ∙ ap (tries w i) next in
+    let rest : after w′ (i + 1) ≡ tries w i (m + a) ++ after w i = after-next w′ j ∙ ap₂ _++_ tried (after-put w i m l g (omega arith) i (omega arith)) in
+    ap (λ (k : List Zone). k ++ after w i) (one-tried w i m pos last)
+    ∙ append-assoc (under w i m) (tries w i (m + a)) (after w i)
+    ∙ ap₂ _++_ here (sym rest)
+
+-- the numbers at a place
+abbrev KeptAt : Walk → ℕ → Type 0
+KeptAt w j = Kept (getD (w .multipliers) j 0) (getD (w .least) j 0) (getD (w .greatest) j 0)
+
+sized-set : (ms ls gs : List ℕ) (i m l g : ℕ) → Sized ms ls gs → Sized (set ms i m) (set ls i l) (set gs i g)
+sized-set ms ls gs i m l g z = record {
+  multipliers-size = length-set ms i m ∙ z .multipliers-size;
+  least-size = length-set ls i l ∙ z .least-size;
+  greatest-size = length-set gs i g ∙ z .greatest-size;
+}
+
+kept-set : (ms ls gs : List ℕ) (i m l g j : ℕ) → j ≡ i → Sized ms ls gs → i < 8 → Kept m l g
+    → Kept (getD (set ms i m) j 0) (getD (set ls i l) j 0) (getD (set gs i g) j 0)
+kept-set ms ls gs i m l g j e z h k =
+    let chosen = getD-set-same ms i m 0 (omega arith) in
+    let least = getD-set-same ls i l 0 (omega arith) in
+    let greatest = getD-set-same gs i g 0 (omega arith) in
+    rw (e, chosen, least, greatest) k
 
 -- what the numbers at the job before say
 module _ (w : Walk) (i : ℕ) (o : Opens w i) (inside : i < w .n) where
   abbrev a : ℕ
-  a = getD (w .multipliers) (i - 1) 0
+  a = lastChosen w i
 
   abbrev g : ℕ
-  g = getD (w .greatest) (i - 1) 0
+  g = greatestLeft w i
 
   abbrev lo : ℕ
   lo = getD (w .shortest) i 0
@@ -211,36 +254,37 @@ module _ (w : Walk) (i : ℕ) (o : Opens w i) (inside : i < w .n) where
   pub first-tries : (m : ℕ) → m ≡ roundUp lo (a * g) * a → Tries w i m
   first-tries m e =
       let k = o .each (i - 1) (omega arith) in
-      let some : 1 ≤ roundUp lo (a * g) = round-up-some (o .spans .each i inside .from) (one-le-mul {b = g} (k .multiplier-from) (omega arith)) in
+      let wide : 1 ≤ a * g = one-le-mul (k .multiplier-from) (omega arith) in
+      let some : 1 ≤ roundUp lo (a * g) = round-up-some (o .spans .each i inside .from) wide in
       let pos : 1 ≤ roundUp lo (a * g) * a = one-le-mul some (k .multiplier-from) in
       record { opens = o; inside = inside; m-from = omega arith; m-to = omega (arith, first-small) }
 
 opens-fewer : (w : Walk) (i j : ℕ) → Opens w i → 1 ≤ j → j ≤ i → Opens w j
 opens-fewer w i j o from to = record { spans = o .spans; sized = o .sized; from = from; to = omega arith; each = λ k h. o .each k (omega arith) }
 
-pub back-tries : (w : Walk) (i prev : ℕ) → Opens w i → i ≡ suc prev → (prev ≡ 0 → ⊥) → Tries w prev (getD (w .multipliers) prev 0 + getD (w .multipliers) (prev - 1) 0)
+pub back-tries : (w : Walk) (i prev : ℕ) → Opens w i → i ≡ suc prev → (prev ≡ 0 → ⊥) → Tries w prev (nextMultiplierAt w prev)
 back-tries w i prev o e h =
     let k = o .each prev (omega arith) in
     let j = o .each (prev - 1) (omega arith) in
     record { opens = opens-fewer w i prev o (omega arith) (omega arith); inside = omega arith; m-from = omega arith; m-to = omega arith }
 
-module _ (w : Walk) (i m : ℕ) (t : Tries w i m) (last : m ≤ getD (w .longest) i 0 / getD (w .least) (i - 1) 0) where
+module _ (w : Walk) (i m : ℕ) (t : Tries w i m) (last : m ≤ lastMultiplierAt w i) where
   -- a multiplier that is not past the last is an interval's end at most
   m-small : m ≤ 3600
   m-small =
       let s = t .opens .spans .each i (t .inside) in
-      let d = div-le-self (getD (w .longest) i 0) (getD (w .least) (i - 1) 0) in
+      let d = div-le-self (getD (w .longest) i 0) (leastLeft w i) in
       omega arith
 
-  pub next-tries : Tries w i (m + getD (w .multipliers) (i - 1) 0)
+  pub next-tries : Tries w i (m + lastChosen w i)
   next-tries =
       let k = t .opens .each (i - 1) (omega arith) in
       record { opens = t .opens; inside = t .inside; m-from = omega arith; m-to = omega (arith, m-small) }
 
-  pub push-opens : (l g : ℕ) → l ≡ leastFor (spanAt (w .shortest) (w .longest) i) (getD (w .least) (i - 1) 0) m → g ≡ greatestFor (spanAt (w .shortest) (w .longest) i) (getD (w .greatest) (i - 1) 0) m → l ≤ g → Opens (put w i m l g) (i + 1)
+  pub push-opens : (l g : ℕ) → l ≡ leastAt w i m → g ≡ greatestAt w i m → l ≤ g → Opens (put w i m l g) (i + 1)
   push-opens l g el eg some = record {
     spans = t .opens .spans;
-    sized = record { multipliers-size = length-set (w .multipliers) i m ∙ t .opens .sized .multipliers-size; least-size = length-set (w .least) i l ∙ t .opens .sized .least-size; greatest-size = length-set (w .greatest) i g ∙ t .opens .sized .greatest-size };
+    sized = sized-set (w .multipliers) (w .least) (w .greatest) i m l g (t .opens .sized);
     from = omega arith;
     to = omega arith;
     each = λ j h. ⊎-elim (λ e. here j e) (λ e. earlier j e) (eq-or-lt-of-le (below j h));
@@ -249,21 +293,25 @@ module _ (w : Walk) (i m : ℕ) (t : Tries w i m) (last : m ≤ getD (w .longest
       below : (j : ℕ) → j < i + 1 → j ≤ i
       below j h = omega arith
 
-      here : (j : ℕ) → j ≡ i → Kept (getD (set (w .multipliers) i m) j 0) (getD (set (w .least) i l) j 0) (getD (set (w .greatest) i g) j 0)
+      here : (j : ℕ) → j ≡ i → KeptAt (put w i m l g) j
       here j e =
-          let z = t .opens .sized in
           let k = t .opens .each (i - 1) (omega arith) in
-          rw (e, getD-set-same (w .multipliers) i m 0 (omega arith), getD-set-same (w .least) i l 0 (omega arith), getD-set-same (w .greatest) i g 0 (omega arith))
+          kept-set (w .multipliers) (w .least) (w .greatest) i m l g j e (t .opens .sized) (omega arith)
           (record { multiplier-from = t .m-from; multiplier-to = m-small; least-from = omega arith; range = some; greatest-to = omega arith })
 
-      earlier : (j : ℕ) → j < i → Kept (getD (set (w .multipliers) i m) j 0) (getD (set (w .least) i l) j 0) (getD (set (w .greatest) i g) j 0)
-      earlier j h = rw (getD-set-other (w .multipliers) i j m 0 (λ e. omega arith), getD-set-other (w .least) i j l 0 (λ e. omega arith), getD-set-other (w .greatest) i j g 0 (λ e. omega arith)) (t .opens .each j h)
+      earlier : (j : ℕ) → j < i → KeptAt (put w i m l g) j
+      earlier j h =
+          let chosen = getD-set-other (w .multipliers) i j m 0 (λ e. omega arith) in
+          let least = getD-set-other (w .least) i j l 0 (λ e. omega arith) in
+          let greatest = getD-set-other (w .greatest) i j g 0 (λ e. omega arith) in
+          rw (chosen, least, greatest) (t .opens .each j h)
 
 -- the same zones are still to come
 pub went-on : {rest next : List Zone} {old : List ℕ} {w : Walk} {found : Bool} → rest ≡ next → WentOn next old w found → WentOn rest old w found
 went-on e o = record { zones = e ∙ o .zones; opens = o .opens; beyond = o .beyond }
 
-pub went-on-from : {rest next : List Zone} (old : List ℕ) (i m : ℕ) {w : Walk} {found : Bool} → i < w .n → rest ≡ next → WentOn next (set old i m) w found → WentOn rest old w found
+pub went-on-from : {rest next : List Zone} (old : List ℕ) (i m : ℕ) {w : Walk} {found : Bool} → i < w .n → rest ≡ next
+    → WentOn next (set old i m) w found → WentOn rest old w found
 went-on-from old i m {w} h e o = record { zones = e ∙ o .zones; opens = o .opens; beyond = o .beyond ∙ drop-set-lt (w .n) old i m h }
 
 -- at a zone, and past the last
@@ -285,16 +333,16 @@ module _ (n : ℕ) (shortest longest ms ls gs : List ℕ) (s : Spans n shortest 
   pub begun-opens : Opens (begun n shortest longest ms ls gs) 1
   begun-opens = record {
     spans = s;
-    sized = record { multipliers-size = length-set ms 0 1 ∙ z .multipliers-size; least-size = length-set ls 0 (getD shortest 0 0) ∙ z .least-size; greatest-size = length-set gs 0 (getD longest 0 0) ∙ z .greatest-size };
+    sized = sized-set ms ls gs 0 1 (getD shortest 0 0) (getD longest 0 0) z;
     from = omega arith;
     to = s .from;
     each = λ j h. here j (omega arith);
   }
     where
-      here : (j : ℕ) → j ≡ 0 → Kept (getD (set ms 0 1) j 0) (getD (set ls 0 (getD shortest 0 0)) j 0) (getD (set gs 0 (getD longest 0 0)) j 0)
+      here : (j : ℕ) → j ≡ 0 → KeptAt (begun n shortest longest ms ls gs) j
       here j e =
           let k = s .each 0 (s .from) in
-          rw (e, getD-set-same ms 0 1 0 (omega arith), getD-set-same ls 0 (getD shortest 0 0) 0 (omega arith), getD-set-same gs 0 (getD longest 0 0) 0 (omega arith))
+          kept-set ms ls gs 0 1 (getD shortest 0 0) (getD longest 0 0) j e z (omega arith)
           (record { multiplier-from = omega arith; multiplier-to = omega arith; least-from = k .from; range = k .order; greatest-to = k .long })
 
   pub begun-zones : zonesIn (spansFrom shortest longest 0 n) ≡ opened (begun n shortest longest ms ls gs) 1 ++ after (begun n shortest longest ms ls gs) 1
@@ -302,5 +350,7 @@ module _ (n : ℕ) (shortest longest ms ls gs : List ℕ) (s : Spans n shortest 
   begun-zones =
       let some : n ≡ suc (n - 1) = omega (arith, s .from) in
       let first : take 1 (set ms 0 1) ≡ 1 ∷ [] = take-suc-set ms 0 1 (omega arith) in
-      ap (λ (k : ℕ). zonesIn (spansFrom shortest longest 0 k)) some
-      ∙ sym (rw (first, getD-set-same ms 0 1 0 (omega arith), getD-set-same ls 0 (getD shortest 0 0) 0 (omega arith), getD-set-same gs 0 (getD longest 0 0) 0 (omega arith)) (append-nil _))
+      let chosen = getD-set-same ms 0 1 0 (omega arith) in
+      let least = getD-set-same ls 0 (getD shortest 0 0) 0 (omega arith) in
+      let greatest = getD-set-same gs 0 (getD longest 0 0) 0 (omega arith) in
+      ap (λ (k : ℕ). zonesIn (spansFrom shortest longest 0 k)) some ∙ sym (rw (first, chosen, least, greatest) (append-nil _))

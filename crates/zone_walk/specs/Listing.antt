@@ -60,7 +60,8 @@ pub record Walk : Type 0 where
   pub greatest : List ℕ
 
 abbrev pub walk : ℕ → List ℕ → List ℕ → List ℕ → List ℕ → List ℕ → Walk
-walk n shortest longest multipliers least greatest = record { n = n; shortest = shortest; longest = longest; multipliers = multipliers; least = least; greatest = greatest }
+walk n shortest longest multipliers least greatest =
+    record { n = n; shortest = shortest; longest = longest; multipliers = multipliers; least = least; greatest = greatest }
 
 abbrev pub spanAt : List ℕ → List ℕ → ℕ → Span
 spanAt shortest longest i = record { shortest = getD shortest i 0; longest = getD longest i 0 }
@@ -70,27 +71,56 @@ unfoldable pub spansFrom : List ℕ → List ℕ → ℕ → ℕ → List Span
 spansFrom shortest longest i zero = []
 spansFrom shortest longest i (suc k) = spanAt shortest longest i ∷ spansFrom shortest longest (i + 1) k
 
+-- The intervals of the jobs from place i on.
+abbrev pub spansLeft : Walk → ℕ → List Span
+spansLeft w i = spansFrom (w .shortest) (w .longest) i (w .n - i)
+
+-- Of the first i jobs: the last one's multiplier, and the range that they leave.
+abbrev pub lastChosen : Walk → ℕ → ℕ
+lastChosen w i = getD (w .multipliers) (i - 1) 0
+
+abbrev pub leastLeft : Walk → ℕ → ℕ
+leastLeft w i = getD (w .least) (i - 1) 0
+
+abbrev pub greatestLeft : Walk → ℕ → ℕ
+greatestLeft w i = getD (w .greatest) (i - 1) 0
+
+-- For the job at place i: the first and the last multiplier to try, the one after that which it has, and the range that m leaves.
+abbrev pub firstMultiplierAt : Walk → ℕ → ℕ
+firstMultiplierAt w i = firstMultiplier (spanAt (w .shortest) (w .longest) i) (greatestLeft w i) (lastChosen w i)
+
+abbrev pub lastMultiplierAt : Walk → ℕ → ℕ
+lastMultiplierAt w i = getD (w .longest) i 0 / leastLeft w i
+
+abbrev pub nextMultiplierAt : Walk → ℕ → ℕ
+nextMultiplierAt w i = getD (w .multipliers) i 0 + lastChosen w i
+
+abbrev pub leastAt : Walk → ℕ → ℕ → ℕ
+leastAt w i m = leastFor (spanAt (w .shortest) (w .longest) i) (leastLeft w i) m
+
+abbrev pub greatestAt : Walk → ℕ → ℕ → ℕ
+greatestAt w i m = greatestFor (spanAt (w .shortest) (w .longest) i) (greatestLeft w i) m
+
 -- The zones with multiplier m for the job at place i.
 unfoldable pub under : Walk → ℕ → ℕ → List Zone
 under w i m =
-    let s = spanAt (w .shortest) (w .longest) i in
-    let l = leastFor s (getD (w .least) (i - 1) 0) m in
-    let g = greatestFor s (getD (w .greatest) (i - 1) 0) m in
-    unlessEmpty (ltb g l) (zonesBelow (spansFrom (w .shortest) (w .longest) (i + 1) (w .n - (i + 1))) (take i (w .multipliers) ++ (m ∷ [])) l g m)
+    let l = leastAt w i m in
+    let g = greatestAt w i m in
+    unlessEmpty (ltb g l) (zonesBelow (spansLeft w (i + 1)) (take i (w .multipliers) ++ (m ∷ [])) l g m)
 
 -- The zones with multiplier m, or a later one, for the job at place i.
 unfoldable pub tries : Walk → ℕ → ℕ → List Zone
-tries w i m = flatMap (under w i) (climbTo (getD (w .multipliers) (i - 1) 0) (getD (w .longest) i 0 / getD (w .least) (i - 1) 0) m)
+tries w i m = flatMap (under w i) (climbTo (lastChosen w i) (lastMultiplierAt w i) m)
 
 -- The zones after all those that begin with the first i multipliers.
 unfoldable pub after : Walk → ℕ → List Zone
 after w zero = []
 after w (suc zero) = []
-after w (suc (suc i)) = tries w (suc i) (getD (w .multipliers) (suc i) 0 + getD (w .multipliers) (suc i - 1) 0) ++ after w (suc i)
+after w (suc (suc i)) = tries w (suc i) (nextMultiplierAt w (suc i)) ++ after w (suc i)
 
 -- The zones that begin with the first i multipliers.
 unfoldable pub opened : Walk → ℕ → List Zone
-opened w i = zonesBelow (spansFrom (w .shortest) (w .longest) i (w .n - i)) (take i (w .multipliers)) (getD (w .least) (i - 1) 0) (getD (w .greatest) (i - 1) 0) (getD (w .multipliers) (i - 1) 0)
+opened w i = zonesBelow (spansLeft w i) (take i (w .multipliers)) (leastLeft w i) (greatestLeft w i) (lastChosen w i)
 
 -- The zones still to come when the job at place i is to be opened, and when its multiplier m is to be tried.
 abbrev pub toOpen : Walk → ℕ → List Zone
@@ -101,7 +131,7 @@ toTry w i m = tries w i m ++ after w i
 
 -- The zone that the walk stands at.
 abbrev pub current : Walk → Zone
-current w = record { least = seconds (getD (w .least) (w .n - 1) 0); greatest = seconds (getD (w .greatest) (w .n - 1) 0); multipliers = take (w .n) (w .multipliers) }
+current w = record { least = seconds (leastLeft w (w .n)); greatest = seconds (greatestLeft w (w .n)); multipliers = take (w .n) (w .multipliers) }
 
 -- The zones still to come where the walk stands at one, or at none.
 unfoldable pub coming : Walk → Bool → List Zone

@@ -38,9 +38,13 @@ pub record Below (js : List Job) (chosen : List ℕ) (least greatest a : ℕ) (z
 
 -- the zones for one multiplier of the next job
 abbrev under : List Span → Span → List ℕ → ℕ → ℕ → ℕ → List Zone
-under ss s chosen least greatest m = unlessEmpty (ltb (greatestFor s greatest m) (leastFor s least m)) (zonesBelow ss (chosen ++ (m ∷ [])) (leastFor s least m) (greatestFor s greatest m) m)
+under ss s chosen least greatest m =
+    let l = leastFor s least m in
+    let g = greatestFor s greatest m in
+    unlessEmpty (ltb g l) (zonesBelow ss (chosen ++ (m ∷ [])) l g m)
 
-here : (chosen : List ℕ) (least greatest a : ℕ) → least ≤ greatest → Below [] chosen least greatest a (record { least = seconds least; greatest = seconds greatest; multipliers = chosen })
+here : (chosen : List ℕ) (least greatest a : ℕ) → least ≤ greatest
+    → Below [] chosen least greatest a (record { least = seconds least; greatest = seconds greatest; multipliers = chosen })
 here chosen least greatest a h = record {
   more = [];
   multipliers = sym (append-nil chosen);
@@ -85,10 +89,13 @@ below-only (j ∷ js) chosen least greatest a {z} v l g pos i =
     let some : 1 ≤ q = round-up-some (v .0 .lo-from) (mul-pos pos (omega arith)) in
     let pos-m : 1 ≤ m = le-trans (mul-pos some pos) (u .from) in
     let step : m % a ≡ 0 = rw (u .is) (mul-mod-left (u .times) a) in
-    onward j js chosen least greatest a m z pos-m step (below-only js (chosen ++ (m ∷ [])) (leastFor s least m) (greatestFor s greatest m) m (v .1) (omega arith) (ltb-false _ _ (k .0)) pos-m (k .1))
+    let l′ = leastFor s least m in
+    let g′ = greatestFor s greatest m in
+    onward j js chosen least greatest a m z pos-m step (below-only js (chosen ++ (m ∷ [])) l′ g′ m (v .1) (omega arith) (ltb-false _ _ (k .0)) pos-m (k .1))
 
 -- a multiplier that some first period of the range allows is among those tried
-multiplier-listed : (s : Span) (least greatest a m t : ℕ) → 1 ≤ least → 1 ≤ a → m % a ≡ 0 → least ≤ t → t ≤ greatest → s .shortest ≤ m * t → m * t ≤ s .longest
+multiplier-listed : (s : Span) (least greatest a m t : ℕ) → 1 ≤ least → 1 ≤ a → m % a ≡ 0
+    → least ≤ t → t ≤ greatest → s .shortest ≤ m * t → m * t ≤ s .longest
     → List·Memᴰ m (climbTo a (s .longest / least) (firstMultiplier s greatest a))
 multiplier-listed s least greatest a m t l pos e from to above below =
     let q = roundUp (s .shortest) (a * greatest) in
@@ -104,7 +111,8 @@ multiplier-listed s least greatest a m t l pos e from to above below =
 
 -- every list of multipliers that some first period of the range allows is there
 pub below-all : (js : List Job) (chosen more : List ℕ) (least greatest a t : ℕ) → ValidJobs js → 1 ≤ least → 1 ≤ a → MultiplesAfter a more
-    → least ≤ t → t ≤ greatest → InIntervals js more t → (z : Zone) × List·Memᴰ z (zonesBelow (map spanOf js) chosen least greatest a) × (z .multipliers ≡ chosen ++ more)
+    → least ≤ t → t ≤ greatest → InIntervals js more t
+    → (z : Zone) × List·Memᴰ z (zonesBelow (map spanOf js) chosen least greatest a) × (z .multipliers ≡ chosen ++ more)
 unfolding zonesBelow
 below-all [] chosen [] least greatest a t v l pos c from to h = (_, List·Memᴰ·head refl, sym (append-nil chosen))
 below-all [] chosen (m ∷ more) least greatest a t v l pos c from to h = absurd h
@@ -115,29 +123,40 @@ below-all (j ∷ js) chosen (m ∷ more) least greatest a t v l pos c from to h 
     let r = below-all js (chosen ++ (m ∷ [])) more (leastFor s least m) (greatestFor s greatest m) m t (v .1) (omega arith) (c .0) (c .2) (n .0) (n .1) (h .2) in
     let some : ltb (greatestFor s greatest m) (leastFor s least m) ≡ false = le-ltb _ _ (le-trans (n .0) (n .1)) in
     let i : List·Memᴰ (r .0) (under (map spanOf js) s chosen least greatest m) = in-open (ltb (greatestFor s greatest m) (leastFor s least m)) some (r .1) in
-    (r .0, flat-has (under (map spanOf js) s chosen least greatest) (climbTo a (s .longest / least) (firstMultiplier s greatest a)) (multiplier-listed s least greatest a m t l pos (c .1) from to (h .0) (h .1)) i, r .2 ∙ append-snoc chosen m more)
+    let tried = climbTo a (s .longest / least) (firstMultiplier s greatest a) in
+    let among : List·Memᴰ m tried = multiplier-listed s least greatest a m t l pos (c .1) from to (h .0) (h .1) in
+    (r .0, flat-has (under (map spanOf js) s chosen least greatest) tried among i, r .2 ∙ append-snoc chosen m more)
 
-starts : (ss : List Span) (chosen : List ℕ) (least greatest a : ℕ) {z : Zone} → List·Memᴰ z (zonesBelow ss chosen least greatest a) → (more : List ℕ) × (z .multipliers ≡ chosen ++ more)
+starts : (ss : List Span) (chosen : List ℕ) (least greatest a : ℕ) {z : Zone} → List·Memᴰ z (zonesBelow ss chosen least greatest a)
+    → (more : List ℕ) × (z .multipliers ≡ chosen ++ more)
 unfolding zonesBelow
 starts [] chosen least greatest a i = ([], ap (λ (z : Zone). z .multipliers) (List·Memᴰ·eq-of-singleton i) ∙ sym (append-nil chosen))
 starts (s ∷ ss) chosen least greatest a i =
     let r = in-flat (under ss s chosen least greatest) (climbTo a (s .longest / least) (firstMultiplier s greatest a)) i in
     let m = r .0 in
-    let b = starts ss (chosen ++ (m ∷ [])) (leastFor s least m) (greatestFor s greatest m) m (in-nonempty (ltb (greatestFor s greatest m) (leastFor s least m)) (r .2) .1) in
+    let l = leastFor s least m in
+    let g = greatestFor s greatest m in
+    let b = starts ss (chosen ++ (m ∷ [])) l g m (in-nonempty (ltb g l) (r .2) .1) in
     (m ∷ b .0, b .1 ∙ append-snoc chosen m (b .0))
 
-under-starts : (ss : List Span) (s : Span) (chosen : List ℕ) (least greatest m : ℕ) {z : Zone} → List·Memᴰ z (under ss s chosen least greatest m) → (more : List ℕ) × (z .multipliers ≡ chosen ++ m ∷ more)
+under-starts : (ss : List Span) (s : Span) (chosen : List ℕ) (least greatest m : ℕ) {z : Zone} → List·Memᴰ z (under ss s chosen least greatest m)
+    → (more : List ℕ) × (z .multipliers ≡ chosen ++ m ∷ more)
 under-starts ss s chosen least greatest m i =
-    let b = starts ss (chosen ++ (m ∷ [])) (leastFor s least m) (greatestFor s greatest m) m (in-nonempty (ltb (greatestFor s greatest m) (leastFor s least m)) i .1) in
+    let l = leastFor s least m in
+    let g = greatestFor s greatest m in
+    let b = starts ss (chosen ++ (m ∷ [])) l g m (in-nonempty (ltb g l) i .1) in
     (b .0, b .1 ∙ append-snoc chosen m (b .0))
 
 -- parts for rising multipliers, each part rising, make a rising list
-rising-parts : (ss : List Span) (s : Span) (chosen : List ℕ) (least greatest : ℕ) → ((m : ℕ) → ZonesRise (under ss s chosen least greatest m)) → (ms : List ℕ) → RisingNumbers ms → ZonesRise (flatMap (under ss s chosen least greatest) ms)
+rising-parts : (ss : List Span) (s : Span) (chosen : List ℕ) (least greatest : ℕ) → ((m : ℕ) → ZonesRise (under ss s chosen least greatest m))
+    → (ms : List ℕ) → RisingNumbers ms → ZonesRise (flatMap (under ss s chosen least greatest) ms)
 unfolding flatMap
 rising-parts ss s chosen least greatest each [] h = tt
-rising-parts ss s chosen least greatest each (m ∷ ms) h = rising-append _ (under ss s chosen least greatest m) _ (each m) (rising-parts ss s chosen least greatest each ms (h .1)) across
+rising-parts ss s chosen least greatest each (m ∷ ms) h =
+    rising-append _ (under ss s chosen least greatest m) _ (each m) (rising-parts ss s chosen least greatest each ms (h .1)) across
   where
-    across : (y z : Zone) → List·Memᴰ y (under ss s chosen least greatest m) → List·Memᴰ z (flatMap (under ss s chosen least greatest) ms) → Before (y .multipliers) (z .multipliers)
+    across : (y z : Zone) → List·Memᴰ y (under ss s chosen least greatest m) → List·Memᴰ z (flatMap (under ss s chosen least greatest) ms)
+        → Before (y .multipliers) (z .multipliers)
     across y z i k =
         let r = in-flat (under ss s chosen least greatest) ms k in
         let a = under-starts ss s chosen least greatest m i in

@@ -46,15 +46,20 @@ lies-in-one (j ∷ js) ts {y} {z} h v a b k l =
     let c = zone-by-multipliers (j ∷ js) v .0 a in
     let f = front (j ∷ js) y h c in
     let g = front (j ∷ js) z h (zone-by-multipliers (j ∷ js) v .0 b) in
-    let e : periodsFor (1 ∷ f .0) (k .first) ≡ periodsFor (1 ∷ g .0) (l .first) = ap (λ (ms : List ℕ). periodsFor ms (k .first)) (sym (f .1)) ∙ sym (k .periods) ∙ l .periods ∙ ap (λ (ms : List ℕ). periodsFor ms (l .first)) (g .1) in
+    let by-y : periodsFor (1 ∷ f .0) (k .first) ≡ ts = ap (λ (ms : List ℕ). periodsFor ms (k .first)) (sym (f .1)) ∙ sym (k .periods) in
+    let by-z : ts ≡ periodsFor (1 ∷ g .0) (l .first) = l .periods ∙ ap (λ (ms : List ℕ). periodsFor ms (l .first)) (g .1) in
+    let e : periodsFor (1 ∷ f .0) (k .first) ≡ periodsFor (1 ∷ g .0) (l .first) = by-y ∙ by-z in
     let t : k .first ≡ l .first = (let d : 1 * k .first ≡ 1 * l .first = ap (λ (s : Seconds). s .0) (head-eq-of-cons-eq e) in omega arith) in
     let i : InIntervals (j ∷ js) (1 ∷ f .0) (k .first) = rw (f .1) at (c .range (k .first) .0 (k .inside)) in
     let pos : 1 ≤ k .first = omega arith in
     same-zone (j ∷ js) a b (f .1 ∙ same-multipliers (1 ∷ f .0) (1 ∷ g .0) (k .first) pos (e ∙ ap (periodsFor (1 ∷ g .0)) (sym t)) ∙ sym (g .1))
 
 -- A zone's range is whole: one less and one more put some job outside its interval.
-pub range-whole : (js : List Job) {z : Zone} → ValidJobs js → IsZone js z → (1 ≤ z .least .0 → InIntervals js (z .multipliers) (z .least .0 - 1) → ⊥) × (InIntervals js (z .multipliers) (z .greatest .0 + 1) → ⊥)
-range-whole js {z} v a = let b = zone-by-multipliers js v .0 a in (λ h i. less h (b .range (z .least .0 - 1) .1 i .0), λ i. more (b .range (z .greatest .0 + 1) .1 i .1))
+pub range-whole : (js : List Job) {z : Zone} → ValidJobs js → IsZone js z
+    → (1 ≤ z .least .0 → InIntervals js (z .multipliers) (z .least .0 - 1) → ⊥) × (InIntervals js (z .multipliers) (z .greatest .0 + 1) → ⊥)
+range-whole js {z} v a =
+    let b = zone-by-multipliers js v .0 a in
+    (λ h i. less h (b .range (z .least .0 - 1) .1 i .0), λ i. more (b .range (z .greatest .0 + 1) .1 i .1))
   where
     less : 1 ≤ z .least .0 → z .least .0 ≤ z .least .0 - 1 → ⊥
     less h k = omega arith

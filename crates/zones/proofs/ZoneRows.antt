@@ -17,7 +17,7 @@ use Rattle.codec.proofs.Packing.{length-recut}
 use Rattle.codec.proofs.Rows.{row-of-words, row-in}
 use Rattle.zone_walk.specs.Zone.{Zone}
 use Rattle.zones.specs.Zones.{zoneWidths, zoneFields, rowsOf}
-use Rattle.zone_walk.specs.Listing.{Walk, after, current, coming, Opens, WentOn}
+use Rattle.zone_walk.specs.Listing.{Walk, leastLeft, greatestLeft, after, current, coming, Opens, WentOn}
 use Rattle.zones.specs.ZoneRows.{Wrote, RowNumbers, highWord, lowWord}
 use Rattle.zones.proofs.Coming.{coming-true, coming-false}
 
@@ -31,7 +31,11 @@ module _ (n : ℕ) (ms : List ℕ) (beyond : drop n ms ≡ drop n (replicate 8 0
   zero-from : (j : ℕ) → n ≤ j → getD ms j 0 ≡ 0
   zero-from j h =
       let place : n + (j - n) ≡ j = omega arith in
-      ap (λ (k : ℕ). getD ms k 0) (sym place) ∙ sym (getD-drop n ms (j - n) 0) ∙ ap (λ (l : List ℕ). getD l (j - n) 0) beyond ∙ getD-drop n (replicate 8 0) (j - n) 0 ∙ getD-zeros 8 (n + (j - n))
+      ap (λ (k : ℕ). getD ms k 0) (sym place)
+      ∙ sym (getD-drop n ms (j - n) 0)
+      ∙ ap (λ (l : List ℕ). getD l (j - n) 0) beyond
+      ∙ getD-drop n (replicate 8 0) (j - n) 0
+      ∙ getD-zeros 8 (n + (j - n))
 
   taken-same : (j : ℕ) → getD (take n ms) j 0 ≡ getD ms j 0
   taken-same j = go (decLt j n)
@@ -49,36 +53,51 @@ module _ (n : ℕ) (ms : List ℕ) (beyond : drop n ms ≡ drop n (replicate 8 0
       go (yes h) = each j h
       go (no h) = omega (arith, zero-from j (omega arith))
 
+-- a zone's row
+abbrev rowOf : Zone → List ℕ
+rowOf z = recut zoneWidths (byteWidths rowSize) (zoneFields z)
+
+-- the multipliers beyond n are zeros
+abbrev ZerosBeyond : Walk → Type 0
+ZerosBeyond w = drop (w .n) (w .multipliers) ≡ drop (w .n) (replicate 8 0)
+
+-- the two words of the zone that the walk stands at
+abbrev highAt : Walk → ℕ
+highAt w = highWord (leastLeft w (w .n)) (greatestLeft w (w .n)) (w .multipliers)
+
+abbrev lowAt : Walk → ℕ
+lowAt w = lowWord (w .multipliers)
+
 -- the fields side by side are the two words
 words : (l g : ℕ) (ms : List ℕ) → pack zoneWidths (l ∷ g ∷ (entries 0 ms 1 7 ++ (0 ∷ []))) ≡ highWord l g ms * 2 ^ 64 + lowWord ms
 unfolding pack bits entries
 words l g ms = omega arith
 
-pub row-numbers : (w : Walk) → Opens w (w .n) → drop (w .n) (w .multipliers) ≡ drop (w .n) (replicate 8 0) → RowNumbers (getD (w .least) (w .n - 1) 0) (getD (w .greatest) (w .n - 1) 0) (w .multipliers)
+pub row-numbers : (w : Walk) → Opens w (w .n) → ZerosBeyond w → RowNumbers (leastLeft w (w .n)) (greatestLeft w (w .n)) (w .multipliers)
 row-numbers w o beyond =
     let k = o .each (w .n - 1) (omega arith) in
     let a = small-at (w .n) (w .multipliers) beyond 3600 (λ j h. o .each j h .multiplier-to) in
     record { least-to = omega arith; greatest-to = k .greatest-to; a2 = a 1; a3 = a 2; a4 = a 3; a5 = a 4; a6 = a 5; a7 = a 6; a8 = a 7 }
 
-pub current-row : (w : Walk) → Opens w (w .n) → drop (w .n) (w .multipliers) ≡ drop (w .n) (replicate 8 0)
-    → recut zoneWidths (byteWidths rowSize) (zoneFields (current w)) ≡ rowBytes (highWord (getD (w .least) (w .n - 1) 0) (getD (w .greatest) (w .n - 1) 0) (w .multipliers)) (lowWord (w .multipliers))
+pub current-row : (w : Walk) → Opens w (w .n) → ZerosBeyond w → rowOf (current w) ≡ rowBytes (highAt w) (lowAt w)
 current-row w o beyond =
-    let l = getD (w .least) (w .n - 1) 0 in
-    let g = getD (w .greatest) (w .n - 1) 0 in
+    let l = leastLeft w (w .n) in
+    let g = greatestLeft w (w .n) in
+    let ms = w .multipliers in
     let r = row-numbers w o beyond in
-    let same : zoneFields (current w) ≡ l ∷ g ∷ (entries 0 (w .multipliers) 1 7 ++ (0 ∷ [])) = ap (λ (rest : List ℕ). l ∷ g ∷ (rest ++ (0 ∷ []))) (entries-same 0 (take (w .n) (w .multipliers)) (w .multipliers) 1 7 (taken-same (w .n) (w .multipliers) beyond)) in
-    row-of-words zoneWidths (zoneFields (current w)) (highWord l g (w .multipliers)) (lowWord (w .multipliers)) (ap (pack zoneWidths) same ∙ words l g (w .multipliers)) (omega arith) (omega arith)
+    let more : entries 0 (take (w .n) ms) 1 7 ≡ entries 0 ms 1 7 = entries-same 0 (take (w .n) ms) ms 1 7 (taken-same (w .n) ms beyond) in
+    let same : zoneFields (current w) ≡ l ∷ g ∷ (entries 0 ms 1 7 ++ (0 ∷ [])) = ap (λ (rest : List ℕ). l ∷ g ∷ (rest ++ (0 ∷ []))) more in
+    row-of-words zoneWidths (zoneFields (current w)) (highAt w) (lowAt w) (ap (pack zoneWidths) same ∙ words l g ms) (omega arith) (omega arith)
 
 pub length-rows : (zs : List Zone) → length (rowsOf zs) ≡ rowSize * length zs
 unfolding rowsOf flatMap
 length-rows [] = refl
-length-rows (z ∷ zs) =
-    length-append (recut zoneWidths (byteWidths rowSize) (zoneFields z)) (rowsOf zs) ∙ omega (arith, length-recut zoneWidths (byteWidths rowSize) (zoneFields z), length-rows zs)
+length-rows (z ∷ zs) = length-append (rowOf z) (rowsOf zs) ∙ omega (arith, length-recut zoneWidths (byteWidths rowSize) (zoneFields z), length-rows zs)
 
-rows-snoc : (zs : List Zone) (z : Zone) → rowsOf (zs ++ (z ∷ [])) ≡ rowsOf zs ++ recut zoneWidths (byteWidths rowSize) (zoneFields z)
+rows-snoc : (zs : List Zone) (z : Zone) → rowsOf (zs ++ (z ∷ [])) ≡ rowsOf zs ++ rowOf z
 unfolding rowsOf flatMap
 rows-snoc [] z = append-nil _
-rows-snoc (y ∷ zs) z = ap (λ (l : List ℕ). recut zoneWidths (byteWidths rowSize) (zoneFields y) ++ l) (rows-snoc zs z) ∙ sym (append-assoc (recut zoneWidths (byteWidths rowSize) (zoneFields y)) (rowsOf zs) (recut zoneWidths (byteWidths rowSize) (zoneFields z)))
+rows-snoc (y ∷ zs) z = ap (λ (l : List ℕ). rowOf y ++ l) (rows-snoc zs z) ∙ sym (append-assoc (rowOf y) (rowsOf zs) (rowOf z))
 
 -- what stands at place k of a list, and after it
 pub record Here (xs : List Zone) (k : ℕ) (y : Zone) (ys : List Zone) : Type 0 where
@@ -103,7 +122,7 @@ pub record Writing (all : List Zone) (old out : List ℕ) (w : Walk) (row : ℕ)
   pub rest : coming w found ≡ drop row all
   pub upto : row ≤ length all
   pub opens : found ≡ true → Opens w (w .n)
-  pub beyond : drop (w .n) (w .multipliers) ≡ drop (w .n) (replicate 8 0)
+  pub beyond : ZerosBeyond w
   pub same : length out ≡ length old
   pub bytes : length all ≤ length old / rowSize → out ≡ rowsOf (take row all) ++ drop (rowSize * row) old
 
@@ -126,27 +145,36 @@ module _ (all : List Zone) (old out : List ℕ) (w : Walk) (row : ℕ) (found : 
     pub row-inside : row < length all
     row-inside = at-row .inside
 
-    pub numbers : RowNumbers (getD (w .least) (w .n - 1) 0) (getD (w .greatest) (w .n - 1) 0) (w .multipliers)
+    pub numbers : RowNumbers (leastLeft w (w .n)) (greatestLeft w (w .n)) (w .multipliers)
     numbers = row-numbers w (i .opens here) (i .beyond)
 
-    bytes-more : {new : List ℕ} (high low : ℕ) → high ≡ highWord (getD (w .least) (w .n - 1) 0) (getD (w .greatest) (w .n - 1) 0) (w .multipliers) → low ≡ lowWord (w .multipliers)
-        → new ≡ withRow out row (rowBytes high low) → length all ≤ length old / rowSize → new ≡ rowsOf (take (row + 1) all) ++ drop (rowSize * (row + 1)) old
+    bytes-more : {new : List ℕ} (high low : ℕ) → high ≡ highAt w → low ≡ lowAt w → new ≡ withRow out row (rowBytes high low)
+        → length all ≤ length old / rowSize → new ≡ rowsOf (take (row + 1) all) ++ drop (rowSize * (row + 1)) old
     bytes-more high low eh el e room =
+        let from = rowSize * row in
+        let behind = drop (rowSize * (row + 1)) old in
         let P = rowsOf (take row all) in
-        let R = recut zoneWidths (byteWidths rowSize) (zoneFields (current w)) in
-        let D = drop (rowSize * row) old in
-        let front : length P ≡ rowSize * row = length-rows (take row all) ∙ ap (λ (k : ℕ). rowSize * k) (length-take-le row all (i .upto)) in
-        let before-it : take (rowSize * row) out ≡ P = ap (take (rowSize * row)) (i .bytes room) ∙ take-at P D (rowSize * row) front in
-        let place : rowSize * row + rowSize ≡ length P + rowSize = omega arith in
-        let next : rowSize * row + rowSize ≡ rowSize * (row + 1) = omega arith in
-        let after-it : drop (rowSize * row + rowSize) out ≡ drop (rowSize * (row + 1)) old = ap (drop (rowSize * row + rowSize)) (i .bytes room) ∙ ap (λ (k : ℕ). drop k (P ++ D)) place ∙ drop-append-add P D rowSize ∙ drop-drop rowSize (rowSize * row) old ∙ ap (λ (k : ℕ). drop k old) next in
+        let R = rowOf (current w) in
+        let D = drop from old in
+        let front : length P ≡ from = length-rows (take row all) ∙ ap (λ (k : ℕ). rowSize * k) (length-take-le row all (i .upto)) in
+        let before-it : take from out ≡ P = ap (take from) (i .bytes room) ∙ take-at P D from front in
+        let place : from + rowSize ≡ length P + rowSize = omega arith in
+        let next : from + rowSize ≡ rowSize * (row + 1) = omega arith in
+        let past : drop (from + rowSize) (P ++ D) ≡ drop rowSize D = ap (λ (k : ℕ). drop k (P ++ D)) place ∙ drop-append-add P D rowSize in
+        let further : drop rowSize D ≡ behind = drop-drop rowSize from old ∙ ap (λ (k : ℕ). drop k old) next in
+        let after-it : drop (from + rowSize) out ≡ behind = ap (drop (from + rowSize)) (i .bytes room) ∙ past ∙ further in
         let is : rowBytes high low ≡ R = ap₂ rowBytes eh el ∙ sym (current-row w (i .opens here) (i .beyond)) in
         let inside : row < length out / rowSize = subst (λ (k : ℕ). row < k / rowSize) (sym (i .same)) (omega (arith, at-row .inside)) in
-        e ∙ row-in out (rowBytes high low) row inside ∙ ap₂ (λ (a b : List ℕ). a ++ (rowBytes high low ++ b)) before-it after-it ∙ ap (λ (r : List ℕ). P ++ (r ++ drop (rowSize * (row + 1)) old)) is ∙ sym (append-assoc P R (drop (rowSize * (row + 1)) old)) ∙ ap (λ (l : List ℕ). l ++ drop (rowSize * (row + 1)) old) (sym (rows-snoc (take row all) (current w)) ∙ ap rowsOf (sym (at-row .taken)))
+        let more : P ++ R ≡ rowsOf (take (row + 1) all) = sym (rows-snoc (take row all) (current w)) ∙ ap rowsOf (sym (at-row .taken)) in
+        e
+        ∙ row-in out (rowBytes high low) row inside
+        ∙ ap₂ (λ (a b : List ℕ). a ++ (rowBytes high low ++ b)) before-it after-it
+        ∙ ap (λ (r : List ℕ). P ++ (r ++ behind)) is
+        ∙ sym (append-assoc P R behind)
+        ∙ ap (λ (l : List ℕ). l ++ behind) more
 
     pub one-written : {w′ : Walk} {found′ : Bool} {new : List ℕ} (high low : ℕ)
-        → high ≡ highWord (getD (w .least) (w .n - 1) 0) (getD (w .greatest) (w .n - 1) 0) (w .multipliers) → low ≡ lowWord (w .multipliers)
-        → length new ≡ length out → new ≡ withRow out row (rowBytes high low)
+        → high ≡ highAt w → low ≡ lowAt w → length new ≡ length out → new ≡ withRow out row (rowBytes high low)
         → WentOn (after w (w .n)) (w .multipliers) w′ found′ → w′ .n ≡ w .n → Writing all old new w′ (row + 1) found′
     one-written {w′} {found′} {new} high low eh el size e o n =
         record {

@@ -29,7 +29,9 @@ returns : tie.Need-returns
 returns c =
     let s = c .before .before .before .before .before .before in
     let x = s .args in
-    went-on-from (x .multipliers .now) 0 1 (s .pre .0 .from) (begun-zones (x .n) (x .shortest .now) (x .longest .now) (x .multipliers .now) (x .least .now) (x .greatest .now) (s .pre .0) (s .pre .1)) (c .open-job .ensures)
+    let ms = x .multipliers .now in
+    let all = begun-zones (x .n) (x .shortest .now) (x .longest .now) ms (x .least .now) (x .greatest .now) (s .pre .0) (s .pre .1) in
+    went-on-from ms 0 1 (s .pre .0 .from) all (c .open-job .ensures)
 
 pub first-zone-spec : {M : Type 1} → statement M
 first-zone-spec =
