@@ -16,9 +16,9 @@ use Rattle.model.specs.Climb.{climbTo}
 use Rattle.model.proofs.Climb.{climb-step, climb-end}
 use Rattle.model.proofs.Rounding.{round-up-le, round-up-some}
 use Rattle.zone_walk.specs.Zone.{Zone}
-use Rattle.zone_walk.specs.Listing.{Span, unlessEmpty, zonesBelow, zonesIn, Walk, walk, spanAt, spansFrom, lastChosen, leastLeft, greatestLeft}
+use Rattle.zone_walk.specs.Listing.{Span, unlessEmpty, zonesBelow, zonesIn, Walk, zoneWalk, spanAt, spansFrom, lastChosen, leastLeft, greatestLeft}
 use Rattle.zone_walk.specs.Listing.{firstMultiplierAt, lastMultiplierAt, nextMultiplierAt, leastAt, greatestAt, under, tries, after, opened, coming}
-use Rattle.zone_walk.specs.Listing.{Kept, Spans, Sized, Opens, Tries, WentOn}
+use Rattle.zone_walk.specs.Listing.{Kept, Spans, Sized, Opens, TriesMultiplier, WentOn}
 
 -- the weight of a multiplier at place i: more than all that can be tried at the places after it
 place : ℕ → ℕ
@@ -86,7 +86,7 @@ falls-back ms i m prev b e h k pos =
 
 -- the numbers at place i
 abbrev pub put : Walk → ℕ → ℕ → ℕ → ℕ → Walk
-put w i m l g = walk (w .n) (w .shortest) (w .longest) (set (w .multipliers) i m) (set (w .least) i l) (set (w .greatest) i g)
+put w i m l g = zoneWalk (w .n) (w .shortest) (w .longest) (set (w .multipliers) i m) (set (w .least) i l) (set (w .greatest) i g)
 
 module _ (w : Walk) (i m l g : ℕ) (pos : 1 ≤ i) where
   under-put : (j v : ℕ) → j ≤ i → under (put w i m l g) j v ≡ under w j v
@@ -251,7 +251,7 @@ module _ (w : Walk) (i : ℕ) (o : Opens w i) (inside : i < w .n) where
       let small : a * g ≤ 3600 * 3600 = mul-le-mul (k .multiplier-to) (k .greatest-to) in
       (one-le-mul (k .multiplier-from) (omega arith), omega arith, o .spans .each i inside .short, first-small)
 
-  pub first-tries : (m : ℕ) → m ≡ roundUp lo (a * g) * a → Tries w i m
+  pub first-tries : (m : ℕ) → m ≡ roundUp lo (a * g) * a → TriesMultiplier w i m
   first-tries m e =
       let k = o .each (i - 1) (omega arith) in
       let wide : 1 ≤ a * g = one-le-mul (k .multiplier-from) (omega arith) in
@@ -262,13 +262,13 @@ module _ (w : Walk) (i : ℕ) (o : Opens w i) (inside : i < w .n) where
 opens-fewer : (w : Walk) (i j : ℕ) → Opens w i → 1 ≤ j → j ≤ i → Opens w j
 opens-fewer w i j o from to = record { spans = o .spans; sized = o .sized; from = from; to = omega arith; each = λ k h. o .each k (omega arith) }
 
-pub back-tries : (w : Walk) (i prev : ℕ) → Opens w i → i ≡ suc prev → (prev ≡ 0 → ⊥) → Tries w prev (nextMultiplierAt w prev)
+pub back-tries : (w : Walk) (i prev : ℕ) → Opens w i → i ≡ suc prev → (prev ≡ 0 → ⊥) → TriesMultiplier w prev (nextMultiplierAt w prev)
 back-tries w i prev o e h =
     let k = o .each prev (omega arith) in
     let j = o .each (prev - 1) (omega arith) in
     record { opens = opens-fewer w i prev o (omega arith) (omega arith); inside = omega arith; m-from = omega arith; m-to = omega arith }
 
-module _ (w : Walk) (i m : ℕ) (t : Tries w i m) (last : m ≤ lastMultiplierAt w i) where
+module _ (w : Walk) (i m : ℕ) (t : TriesMultiplier w i m) (last : m ≤ lastMultiplierAt w i) where
   -- a multiplier that is not past the last is an interval's end at most
   m-small : m ≤ 3600
   m-small =
@@ -276,7 +276,7 @@ module _ (w : Walk) (i m : ℕ) (t : Tries w i m) (last : m ≤ lastMultiplierAt
       let d = div-le-self (getD (w .longest) i 0) (leastLeft w i) in
       omega arith
 
-  pub next-tries : Tries w i (m + lastChosen w i)
+  pub next-tries : TriesMultiplier w i (m + lastChosen w i)
   next-tries =
       let k = t .opens .each (i - 1) (omega arith) in
       record { opens = t .opens; inside = t .inside; m-from = omega arith; m-to = omega (arith, m-small) }
@@ -327,7 +327,7 @@ ended w e = record { zones = e; opens = λ f. absurd (true-not-false f); beyond 
 
 -- the walk with the first job open
 abbrev pub begun : ℕ → List ℕ → List ℕ → List ℕ → List ℕ → List ℕ → Walk
-begun n shortest longest ms ls gs = walk n shortest longest (set ms 0 1) (set ls 0 (getD shortest 0 0)) (set gs 0 (getD longest 0 0))
+begun n shortest longest ms ls gs = zoneWalk n shortest longest (set ms 0 1) (set ls 0 (getD shortest 0 0)) (set gs 0 (getD longest 0 0))
 
 module _ (n : ℕ) (shortest longest ms ls gs : List ℕ) (s : Spans n shortest longest) (z : Sized ms ls gs) where
   pub begun-opens : Opens (begun n shortest longest ms ls gs) 1

@@ -59,8 +59,8 @@ pub record Walk : Type 0 where
   pub least : List ℕ
   pub greatest : List ℕ
 
-abbrev pub walk : ℕ → List ℕ → List ℕ → List ℕ → List ℕ → List ℕ → Walk
-walk n shortest longest multipliers least greatest =
+abbrev pub zoneWalk : ℕ → List ℕ → List ℕ → List ℕ → List ℕ → List ℕ → Walk
+zoneWalk n shortest longest multipliers least greatest =
     record { n = n; shortest = shortest; longest = longest; multipliers = multipliers; least = least; greatest = greatest }
 
 abbrev pub spanAt : List ℕ → List ℕ → ℕ → Span
@@ -173,7 +173,7 @@ pub record Opens (w : Walk) (i : ℕ) : Type 0 where
   pub each : (j : ℕ) → j < i → Kept (getD (w .multipliers) j 0) (getD (w .least) j 0) (getD (w .greatest) j 0)
 
 -- The walk tries multiplier m for the job at place i.
-pub record Tries (w : Walk) (i m : ℕ) : Type 0 where
+pub record TriesMultiplier (w : Walk) (i m : ℕ) : Type 0 where
   pub opens : Opens w i
   pub inside : i < w .n
   pub m-from : 1 ≤ m

@@ -12,7 +12,7 @@ use model::Seconds;
 ghost use mathlib.Core.Path.{_≡_};
 ghost use Prim.Native.Nat.{_≤_};
 ghost use lib.ListN.{length};
-ghost use Rattle.zone_walk.specs.Listing.{IntervalsOf, Spans, spansFrom, zonesIn, walk, after, toOpen, toTry, Sized, Opens, Tries, WentOn};
+ghost use Rattle.zone_walk.specs.Listing.{IntervalsOf, Spans, spansFrom, zonesIn, zoneWalk, after, toOpen, toTry, Sized, Opens, TriesMultiplier, WentOn};
 
 // The ends of the jobs' intervals.
 pub fn intervals(p: Profile, shortest: &mut [u32; 8], longest: &mut [u32; 8])
@@ -39,7 +39,7 @@ pub fn first_zone(
     greatest: &mut [u32; 8],
 ) -> bool
     requires { ⌜ Spans n (now shortest) (now longest) × Sized (now multipliers) (now least) (now greatest) ⌝ }
-    ensures { λ r. ⌜ WentOn (zonesIn (spansFrom (now (shortest .entry)) (now (longest .entry)) 0 n)) (now (multipliers .entry)) (walk n (now (shortest .entry)) (now (longest .entry)) (now (multipliers .exit)) (now (least .exit)) (now (greatest .exit))) r ⌝ }
+    ensures { λ r. ⌜ WentOn (zonesIn (spansFrom (now (shortest .entry)) (now (longest .entry)) 0 n)) (now (multipliers .entry)) (zoneWalk n (now (shortest .entry)) (now (longest .entry)) (now (multipliers .exit)) (now (least .exit)) (now (greatest .exit))) r ⌝ }
 {
     multipliers[0] = 1;
     least[0] = shortest[0];
@@ -56,8 +56,8 @@ pub fn next_zone(
     least: &mut [u32; 8],
     greatest: &mut [u32; 8],
 ) -> bool
-    requires { ⌜ Opens (walk n (now shortest) (now longest) (now multipliers) (now least) (now greatest)) n ⌝ }
-    ensures { λ r. ⌜ WentOn (after (walk n (now (shortest .entry)) (now (longest .entry)) (now (multipliers .entry)) (now (least .entry)) (now (greatest .entry))) n) (now (multipliers .entry)) (walk n (now (shortest .entry)) (now (longest .entry)) (now (multipliers .exit)) (now (least .exit)) (now (greatest .exit))) r ⌝ }
+    requires { ⌜ Opens (zoneWalk n (now shortest) (now longest) (now multipliers) (now least) (now greatest)) n ⌝ }
+    ensures { λ r. ⌜ WentOn (after (zoneWalk n (now (shortest .entry)) (now (longest .entry)) (now (multipliers .entry)) (now (least .entry)) (now (greatest .entry))) n) (now (multipliers .entry)) (zoneWalk n (now (shortest .entry)) (now (longest .entry)) (now (multipliers .exit)) (now (least .exit)) (now (greatest .exit))) r ⌝ }
 {
     let prev = n - 1;
     if prev == 0 {
@@ -85,8 +85,8 @@ fn open_job(
     least: &mut [u32; 8],
     greatest: &mut [u32; 8],
 ) -> bool
-    requires { ⌜ Opens (walk n (now shortest) (now longest) (now multipliers) (now least) (now greatest)) i ⌝ }
-    ensures { λ r. ⌜ WentOn (toOpen (walk n (now (shortest .entry)) (now (longest .entry)) (now (multipliers .entry)) (now (least .entry)) (now (greatest .entry))) i) (now (multipliers .entry)) (walk n (now (shortest .entry)) (now (longest .entry)) (now (multipliers .exit)) (now (least .exit)) (now (greatest .exit))) r ⌝ }
+    requires { ⌜ Opens (zoneWalk n (now shortest) (now longest) (now multipliers) (now least) (now greatest)) i ⌝ }
+    ensures { λ r. ⌜ WentOn (toOpen (zoneWalk n (now (shortest .entry)) (now (longest .entry)) (now (multipliers .entry)) (now (least .entry)) (now (greatest .entry))) i) (now (multipliers .entry)) (zoneWalk n (now (shortest .entry)) (now (longest .entry)) (now (multipliers .exit)) (now (least .exit)) (now (greatest .exit))) r ⌝ }
 {
     if i == n {
         return true;
@@ -112,8 +112,8 @@ fn try_multiplier(
     least: &mut [u32; 8],
     greatest: &mut [u32; 8],
 ) -> bool
-    requires { ⌜ Tries (walk n (now shortest) (now longest) (now multipliers) (now least) (now greatest)) i m ⌝ }
-    ensures { λ r. ⌜ WentOn (toTry (walk n (now (shortest .entry)) (now (longest .entry)) (now (multipliers .entry)) (now (least .entry)) (now (greatest .entry))) i m) (now (multipliers .entry)) (walk n (now (shortest .entry)) (now (longest .entry)) (now (multipliers .exit)) (now (least .exit)) (now (greatest .exit))) r ⌝ }
+    requires { ⌜ TriesMultiplier (zoneWalk n (now shortest) (now longest) (now multipliers) (now least) (now greatest)) i m ⌝ }
+    ensures { λ r. ⌜ WentOn (toTry (zoneWalk n (now (shortest .entry)) (now (longest .entry)) (now (multipliers .entry)) (now (least .entry)) (now (greatest .entry))) i m) (now (multipliers .entry)) (zoneWalk n (now (shortest .entry)) (now (longest .entry)) (now (multipliers .exit)) (now (least .exit)) (now (greatest .exit))) r ⌝ }
 {
     let prev = i - 1;
     let a = multipliers[prev];

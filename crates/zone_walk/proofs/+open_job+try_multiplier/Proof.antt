@@ -10,7 +10,7 @@ use native.Mathlib.Omega.{arith}
 use borrow.Author.Needs.{needs}
 use borrow.Author.Tests.{ltb-true, ltb-false}
 use Rattle.zone_walk.specs.Zone.{Zone}
-use Rattle.zone_walk.specs.Listing.{Walk, walk, firstMultiplierAt, lastMultiplierAt, leastAt, greatestAt, lastChosen, leastLeft, greatestLeft}
+use Rattle.zone_walk.specs.Listing.{Walk, zoneWalk, firstMultiplierAt, lastMultiplierAt, leastAt, greatestAt, lastChosen, leastLeft, greatestLeft}
 use Rattle.zone_walk.specs.Listing.{Kept, opened, after, tries, Opens, WentOn}
 use Rattle.zone_walk.proofs.Walk.{openLeft, tryLeft, falls-opening, falls-next, falls-open, falls-back}
 use Rattle.zone_walk.proofs.Walk.{past-last, none-under, go-back, at-first, job-opened, pushed, first-asked, first-tries}
@@ -83,7 +83,7 @@ abbrev Opening : ℕ → Type 0
 Opening t = open-job-lts.Start (open-job-claims t) (open-job-at t) open-job.Post
 
 abbrev lent : {t : ℕ} → Opening t → Walk
-lent s = let x = s .args in walk (x .n) (x .shortest .now) (x .longest .now) (x .multipliers .now) (x .least .now) (x .greatest .now)
+lent s = let x = s .args in zoneWalk (x .n) (x .shortest .now) (x .longest .now) (x .multipliers .now) (x .least .now) (x .greatest .now)
 
 -- there is a job to open
 still : {t : ℕ} (s : Opening t) → (s .args .i ≡ s .args .n → ⊥) → s .args .i < s .args .n
@@ -152,7 +152,7 @@ abbrev Trying : ℕ → Type 0
 Trying t = try-multiplier-lts.Start (try-multiplier-claims t) (try-multiplier-at t) try-multiplier.Post
 
 abbrev held : {t : ℕ} → Trying t → Walk
-held s = let x = s .args in walk (x .n) (x .shortest .now) (x .longest .now) (x .multipliers .now) (x .least .now) (x .greatest .now)
+held s = let x = s .args in zoneWalk (x .n) (x .shortest .now) (x .longest .now) (x .multipliers .now) (x .least .now) (x .greatest .now)
 
 -- the numbers at the job before
 from-prev : {t : ℕ} (s : Trying t) → s .args .i ≡ suc (s .args .i - 1)

@@ -4,13 +4,13 @@ use mathlib.Core.Path.{_≡_}
 use Prim.Native.Nat.{suc, _-_}
 use native.Mathlib.Omega.{arith}
 use borrow.Author.Needs.{needs}
-use Rattle.zone_walk.specs.Listing.{Walk, walk}
+use Rattle.zone_walk.specs.Listing.{Walk, zoneWalk}
 use Rattle.zone_walk.proofs.Walk.{at-first, go-back, back-tries, went-on, ended}
 use Rattle.zone_walk.proofs.next_zone.Statement.{statement}
 use Rattle.zone_walk.proofs.next_zone.Tie as tie
 
 abbrev held : tie.Start → Walk
-held s = let x = s .args in walk (x .n) (x .shortest .now) (x .longest .now) (x .multipliers .now) (x .least .now) (x .greatest .now)
+held s = let x = s .args in zoneWalk (x .n) (x .shortest .now) (x .longest .now) (x .multipliers .now) (x .least .now) (x .greatest .now)
 
 from-prev : (s : tie.Start) → s .args .n ≡ suc (s .args .n - 1)
 from-prev s = omega (arith, s .pre .from)

@@ -4,18 +4,18 @@ use mathlib.Core.Path.{refl}
 use native.Mathlib.Omega.{arith}
 use borrow.Author.Needs.{needs}
 use lib.ListN.{length}
-use Rattle.zone_walk.specs.Listing.{walk, spansFrom, zonesIn, coming}
+use Rattle.zone_walk.specs.Listing.{zoneWalk, spansFrom, zonesIn, coming}
 use Rattle.zones.proofs.ZoneRows.{Writing, none-written, all-written, row-inside, numbers, one-written, fewer-left}
 use Rattle.zones.proofs.write_zones.Statement.{statement}
 use Rattle.zones.proofs.write_zones.Tie as tie
 
 abbrev Inv-loop : tie.InvT-loop
 Inv-loop n shortest longest out₀ multipliers₀ least₀ greatest₀ row₀ found₀ out multipliers least greatest row found =
-    Writing (zonesIn (spansFrom shortest longest 0 n)) out₀ out (walk n shortest longest multipliers least greatest) row found
+    Writing (zonesIn (spansFrom shortest longest 0 n)) out₀ out (zoneWalk n shortest longest multipliers least greatest) row found
 
 abbrev μ-loop : tie.MeasureT-loop
 μ-loop n shortest longest out₀ multipliers₀ least₀ greatest₀ row₀ found₀ out multipliers least greatest row found =
-    length (coming (walk n shortest longest multipliers least greatest) found)
+    length (coming (zoneWalk n shortest longest multipliers least greatest) found)
 
 first-zone-requires : tie.Need-first-zone-requires Inv-loop μ-loop
 first-zone-requires c κs = (c .before .before .before .before .pre .0, record { multipliers-size = refl; least-size = refl; greatest-size = refl })
