@@ -13,7 +13,7 @@ use Rattle.model.specs.declared.PagesPerHour.{PagesPerHour}
 use Rattle.step.specs.Step.{needAt}
 use Rattle.walk.specs.Steps.{periodsIn}
 use Rattle.table_stairs.specs.Stairs.{Stair, stair, covered, losingLess, needingLess, among, atMost, enter}
-use Rattle.table_stairs.specs.Rows.{most, needIn, lossIn, stairAt, rowsFrom, stairsOf, Rises, LosesLess, Covers, NeedsLess, Place, Standing, Puts, Enters}
+use Rattle.table_stairs.specs.Rows.{most, needIn, lossIn, stairAt, rowsFrom, stairsOf, Rises, LosesLess, Covers, NeedsLess, Place, Standing, PutsStair, Enters}
 use Rattle.table_stairs.proofs.Updates.{enter-over, enter-bound, enter-covered, enter-new}
 use Rattle.table_stairs.proofs.Rows.{rows-split}
 
@@ -184,11 +184,11 @@ module _ {n : ℕ} {b : PagesPerHour} {t : Seconds} {written lost : ℕ} {ps fla
         stays (enter-covered most (b .0) (needAt written t) lost (periodsIn n ps) (stairsOf n flat marks) (row-covers n flat (needAt written t) lost 0 (getD marks 0 0) (a .0) zero-le (omega arith) (omega arith) (a .3)))
 
     -- a plan that does
-    pub enters-new : {i j : ℕ} {flat′ marks′ : List ℕ} {r : Bool} → needAt written t ≤ b .0 → lost < getD marks 1 0 → Covers flat (getD marks 0 0) q lost r → r ≡ false → Place (getD marks 0 0) flat q lost i j → Puts n q lost i j ps flat marks flat′ marks′ → Enters n b t written lost ps flat marks flat′ marks′
+    pub enters-new : {i j : ℕ} {flat′ marks′ : List ℕ} {r : Bool} → needAt written t ≤ b .0 → lost < getD marks 1 0 → Covers flat (getD marks 0 0) q lost r → r ≡ false → Place (getD marks 0 0) flat q lost i j → PutsStair n q lost i j ps flat marks flat′ marks′ → Enters n b t written lost ps flat marks flat′ marks′
     enters-new {i} {j} {flat′} {marks′} fits less c fresh p w =
         let q′ = needAt written t in
         let new : covered q′ lost (rowsFrom n flat 0 (getD marks 0 0)) ≡ false = no-row-covers n flat q′ lost 0 (getD marks 0 0) (λ a from to more. (let e = is in omega (arith, c .none fresh a (omega arith) more))) in
-        let w′ : Puts n q′ lost i j ps flat marks flat′ marks′ = subst (λ (x : ℕ). Puts n x lost i j ps flat marks flat′ marks′) is w in
+        let w′ : PutsStair n q′ lost i j ps flat marks flat′ marks′ = subst (λ (x : ℕ). PutsStair n x lost i j ps flat marks flat′ marks′) is w in
         let p′ : Place (getD marks 0 0) flat q′ lost i j = subst (λ (x : ℕ). Place (getD marks 0 0) flat x lost i j) is p in
         record {
           stands = w′ .stands;

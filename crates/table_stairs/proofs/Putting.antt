@@ -8,7 +8,7 @@ use lib.ListN.{length, getD, set, length-set, length-append}
 use lib.Seq.{take-at, getD-at, getD-set-same, getD-set-other}
 use Rattle.walk.specs.Steps.{periodsIn}
 use Rattle.table_stairs.specs.Stairs.{Stair, stair, Stairs, atMost}
-use Rattle.table_stairs.specs.Rows.{most, lossIn, stairAt, rowsFrom, Rises, Legible, Moved, Stored, Place, Standing, Puts}
+use Rattle.table_stairs.specs.Rows.{most, lossIn, stairAt, rowsFrom, Rises, Legible, Moved, Stored, Place, Standing, PutsStair}
 use Rattle.table_stairs.proofs.Updates.{at-most-all, at-most-cut}
 use Rattle.table_stairs.proofs.Rows.{rows-length, rows-split, moved-stored, between-rows, between-rises, between-bounded, between-legible}
 
@@ -24,7 +24,7 @@ crowded xs y bound full =
 module _ {n q l i j : ℕ} {ps flat marks : List ℕ} (s : Standing n ps flat marks) (p : Place (getD marks 0 0) flat q l i j) (less : l < getD marks 1 0) where
   -- there is room
   pub puts-within : {flat₁ flat′ : List ℕ} {k : ℕ} → i + 1 + (getD marks 0 0 - j) ≤ 256 → k ≡ i + 1 + (getD marks 0 0 - j) → Moved i j (getD marks 0 0) flat flat₁ → Stored i q l ps flat₁ flat′ →
-      Puts n q l i j ps flat marks flat′ (set marks 0 k)
+      PutsStair n q l i j ps flat marks flat′ (set marks 0 k)
   puts-within {flat₁} {flat′} {k} room is m t =
       let two = s .marks-size in
       let most-k = s .count-to in
@@ -44,14 +44,14 @@ module _ {n q l i j : ℕ} {ps flat marks : List ℕ} (s : Standing n ps flat ma
       }
 
   -- no row leaves
-  pub puts-more : {flat₁ flat′ : List ℕ} → j ≡ i → getD marks 0 0 < 256 → Moved i i (getD marks 0 0) flat flat₁ → Stored i q l ps flat₁ flat′ → Puts n q l i j ps flat marks flat′ (set marks 0 (getD marks 0 0 + 1))
+  pub puts-more : {flat₁ flat′ : List ℕ} → j ≡ i → getD marks 0 0 < 256 → Moved i i (getD marks 0 0) flat flat₁ → Stored i q l ps flat₁ flat′ → PutsStair n q l i j ps flat marks flat′ (set marks 0 (getD marks 0 0 + 1))
   puts-more {flat₁} {flat′} same room m t =
       let upto = p .upto in
       puts-within (omega arith) (omega arith) (subst (λ (x : ℕ). Moved i x (getD marks 0 0) flat flat₁) (sym same) m) t
 
   module _ (full : getD marks 0 0 ≡ 256) (same : j ≡ i) where
     -- the last row leaves
-    pub puts-crowded : {flat₁ flat′ : List ℕ} → i < 256 → Moved i i 255 flat flat₁ → Stored i q l ps flat₁ flat′ → Puts n q l i j ps flat marks flat′ (set marks 1 (lossIn flat 255))
+    pub puts-crowded : {flat₁ flat′ : List ℕ} → i < 256 → Moved i i 255 flat flat₁ → Stored i q l ps flat₁ flat′ → PutsStair n q l i j ps flat marks flat′ (set marks 1 (lossIn flat 255))
     unfolding rowsFrom stairAt
     puts-crowded {flat₁} {flat′} room m t =
         let two = s .marks-size in
@@ -80,7 +80,7 @@ module _ {n q l i j : ℕ} {ps flat marks : List ℕ} (s : Standing n ps flat ma
         }
 
     -- the plan itself would be the one too many
-    pub puts-past : i ≡ 256 → Puts n q l i j ps flat marks flat (set marks 1 l)
+    pub puts-past : i ≡ 256 → PutsStair n q l i j ps flat marks flat (set marks 1 l)
     unfolding rowsFrom
     puts-past past =
         let two = s .marks-size in

@@ -134,7 +134,7 @@ pub record Standing (n : ℕ) (ps flat marks : List ℕ) : Type 0 where
   pub legible : (a : ℕ) → a < getD marks 0 0 → Legible n flat a
 
 -- The plan stands at place i, before what stood from place j on, and at most so many rows.
-pub record Puts (n q l i j : ℕ) (ps flat marks flat′ marks′ : List ℕ) : Type 0 where
+pub record PutsStair (n q l i j : ℕ) (ps flat marks flat′ marks′ : List ℕ) : Type 0 where
   pub stands : Standing n ps flat′ marks′
   pub is : stairsOf n flat′ marks′ ≡ atMost most (rowsFrom n flat 0 i ++ (stair q l (periodsIn n ps) ∷ rowsFrom n flat j (getD marks 0 0 - j))) (getD marks 1 0)
 

@@ -11,7 +11,7 @@ ghost use lib.ListN.{length, getD};
 ghost use Rattle.step.specs.Step.{NeedFits};
 ghost use Rattle.walk.specs.Steps.{ReadyForCut};
 ghost use Rattle.table_stairs.specs.Stairs.{noBound};
-ghost use Rattle.table_stairs.specs.Rows.{Periods, Rises, LosesLess, PlacesRise, PlacesLoseLess, Covers, NeedsLess, Moved, Stored, Place, Standing, Puts, Enters, EntersNothing};
+ghost use Rattle.table_stairs.specs.Rows.{Periods, Rises, LosesLess, PlacesRise, PlacesLoseLess, Covers, NeedsLess, Moved, Stored, Place, Standing, PutsStair, Enters, EntersNothing};
 
 // Where a row has its loss, behind its two words.
 const LOSS_PLACE: usize = 2;
@@ -106,7 +106,7 @@ fn put_plan(
     requires { ⌜ Standing n (now periods) (now rows) (now marks) ⌝ }
     requires { ⌜ Place (getD (now marks) 0 0) (now rows) (need .0) loss i j ⌝ }
     requires { ⌜ loss < getD (now marks) 1 0 ⌝ }
-    ensures { λ _. ⌜ Puts n (need .0) loss i j (now (periods .entry)) (now (rows .entry)) (now (marks .entry)) (now (rows .exit)) (now (marks .exit)) ⌝ }
+    ensures { λ _. ⌜ PutsStair n (need .0) loss i j (now (periods .entry)) (now (rows .entry)) (now (marks .entry)) (now (rows .exit)) (now (marks .exit)) ⌝ }
 {
     let count = marks[COUNT] as usize;
     if i < j {
