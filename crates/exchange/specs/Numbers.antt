@@ -41,8 +41,8 @@ unfoldable pub numbersOf : Profile → List ℕ
 numbersOf p = p .n ∷ jobsNumbers (entries noJob (p .jobs) 0 8)
 
 -- Eight numbers as periods.
-abbrev pub periodsIn : List ℕ → List Seconds
-periodsIn numbers = map seconds (entries 0 numbers 0 8)
+abbrev pub eightPeriodsIn : List ℕ → List Seconds
+eightPeriodsIn numbers = map seconds (entries 0 numbers 0 8)
 
 -- A plan as ten numbers: need, loss, and eight periods.
 unfoldable pub answerOf : PagesPerHour → ℕ → List Seconds → List ℕ

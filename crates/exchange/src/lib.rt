@@ -11,7 +11,7 @@ use model::Verdict;
 ghost use mathlib.Core.Path.{_≡_};
 ghost use Prim.Native.Nat.{_<_};
 ghost use lib.Seq.{sets};
-ghost use Rattle.exchange.specs.Numbers.{resultOf, countedOf, jobIn, profileIn, jobNumbers, numbersOf, periodsIn, answerOf};
+ghost use Rattle.exchange.specs.Numbers.{resultOf, countedOf, jobIn, profileIn, jobNumbers, numbersOf, eightPeriodsIn, answerOf};
 
 // A profile from n and 40 numbers.
 pub fn profile(n: u32, jobs: &[u32; 40]) -> Profile
@@ -48,7 +48,7 @@ pub fn job(jobs: &[u32; 40], at: usize) -> Job
 
 // Eight numbers as periods.
 pub fn as_periods(periods: &[u32; 8]) -> [Seconds; 8]
-    ensures { λ r. ⌜ r ≡ periodsIn (now (periods .entry)) ⌝ }
+    ensures { λ r. ⌜ r ≡ eightPeriodsIn (now (periods .entry)) ⌝ }
 {
     [
         Seconds(periods[0]),

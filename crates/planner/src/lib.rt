@@ -32,7 +32,7 @@ ghost use Rattle.choose.specs.Choice.{Chosen};
 ghost use Rattle.zones.specs.Zones.{Listed};
 ghost use Rattle.table.specs.Table.{Built};
 ghost use Rattle.table_lookup.specs.Lookup.{Locates};
-ghost use Rattle.exchange.specs.Numbers.{profileIn, numbersOf, periodsIn, answerOf};
+ghost use Rattle.exchange.specs.Numbers.{profileIn, numbersOf, eightPeriodsIn, answerOf};
 ghost use Rattle.planner.specs.ForC.{CountsForC, LeavesForC};
 
 // The values that a profile's bytes stand for, into 41 numbers.
@@ -67,7 +67,7 @@ pub extern "C" fn charopleth_score(
     periods: &[u32; 8],
     answer: &mut [u64; 2],
 ) -> u64
-    ensures { λ r. ⌜ LeavesForC (Scores (profileIn n (now (jobs .entry))) (periodsIn (now (periods .entry)))) (λ a. a .verdict) (λ a. a .need .0 ∷ a .loss ∷ []) (now (answer .entry)) r (now (answer .exit)) ⌝ }
+    ensures { λ r. ⌜ LeavesForC (Scores (profileIn n (now (jobs .entry))) (eightPeriodsIn (now (periods .entry)))) (λ a. a .verdict) (λ a. a .need .0 ∷ a .loss ∷ []) (now (answer .entry)) r (now (answer .exit)) ⌝ }
 {
     let s = score::score(exchange::profile(n, jobs), exchange::as_periods(periods));
     let v = s.verdict;

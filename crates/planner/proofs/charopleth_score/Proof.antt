@@ -6,17 +6,17 @@ use Rattle.model.specs.declared.Seconds.{Seconds}
 use Rattle.model.specs.declared.Profile.{Profile}
 use Rattle.model.proofs.Verdicts.{refuses}
 use Rattle.score.specs.Scoring.{Scores}
-use Rattle.exchange.specs.Numbers.{profileIn, periodsIn}
+use Rattle.exchange.specs.Numbers.{profileIn, eightPeriodsIn}
 use Rattle.planner.proofs.Left.{refusal-left, sound-left}
 use borrow.Author.Needs.{needs}
 use Rattle.planner.proofs.charopleth_score.Statement.{statement}
 use Rattle.planner.proofs.charopleth_score.Tie as tie
 
 -- the score is that of the profile and the periods which the numbers hold
-of-these : (c : tie.After-score) → Scores (profileIn (c .before .before .before .args .n) (c .before .before .before .args .jobs .now)) (periodsIn (c .before .before .before .args .periods .now)) (c .score .result)
+of-these : (c : tie.After-score) → Scores (profileIn (c .before .before .before .args .n) (c .before .before .before .args .jobs .now)) (eightPeriodsIn (c .before .before .before .args .periods .now)) (c .score .result)
 of-these c =
     let r = c .score .result in
-    subst (λ (p : Profile). Scores p (periodsIn (c .before .before .before .args .periods .now)) r) (c .before .before .profile .ensures) (subst (λ (ts : List Seconds). Scores (c .before .before .profile .result) ts r) (c .before .as-periods .ensures) (c .score .ensures))
+    subst (λ (p : Profile). Scores p (eightPeriodsIn (c .before .before .before .args .periods .now)) r) (c .before .before .profile .ensures) (subst (λ (ts : List Seconds). Scores (c .before .before .profile .result) ts r) (c .before .as-periods .ensures) (c .score .ensures))
 
 profile-requires : tie.Need-profile-requires
 profile-requires c κs = search needs
