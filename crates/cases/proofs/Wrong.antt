@@ -13,6 +13,7 @@ use Rattle.model.specs.declared.Counted.{Counted}
 use Rattle.model.specs.declared.Seconds.{Seconds}
 use Rattle.model.specs.declared.Verdict.the-variants.{Sound}
 use Rattle.model.specs.Model.{seconds, pagesPerHour, jobsOf, verdictOf, rowsVerdict, PutsRows}
+use Rattle.model.specs.ProfileA.{bytesA}
 use Rattle.model.proofs.Verdicts.{beside-sound, both-sound}
 use Rattle.profile_write.specs.Writing.{Writes}
 use Rattle.zone_walk.specs.Zone.{Zone}
@@ -21,7 +22,7 @@ use Rattle.zones.proofs.OneOutcome.{zones-one}
 use Rattle.table.specs.Table.{TableOf, Built}
 use Rattle.table.proofs.OneOutcome.{table-one}
 use Rattle.cases.specs.Case.{writingIn, choosing, listingIn, buildingIn, plan, number, lent, rows}
-use Rattle.cases.specs.Cases.{profileA, oneList, bytesA, tableA, zonesA}
+use Rattle.cases.specs.Cases.{profileA, oneList, tableA, zonesA}
 use Rattle.cases.specs.Wrong.{Chooser, ChoosesFor, RefusesEverything, GivesOnePlan, Filler, MeetsAt, StoresNothing, RepeatsFirstRow, InventsCount}
 use Rattle.cases.proofs.Worked.{Computed, right}
 

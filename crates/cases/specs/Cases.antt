@@ -8,18 +8,16 @@ use Rattle.model.specs.declared.Job.{Job}
 use Rattle.model.specs.declared.Profile.{Profile}
 use Rattle.model.specs.declared.Verdict.the-variants.{Sound, NoBytes, Edition, JobCount, Length, Interval, Spare, NoPeriods, Room, Row, Periods}
 use Rattle.model.specs.Model.{seconds}
+use Rattle.model.specs.ProfileA.{bytesA}
 use Rattle.choose.specs.Choice.{refused}
 use Rattle.cases.specs.Case.{Case, reading, writing, writingIn, permitting, scoring, choosing, listing, listingIn, building, buildingIn, lookingUp, job, interval, profile, values, noValues, eight, plan, scored, noScore, below, number, noNumber, lent, rows}
 
--- The profile that document 01 works with, as values and as bytes.
+-- The profile that document 01 works with, as values; its bytes stand in model.
 abbrev pub jobsA : List Job
 jobsA = job 20 25 9 1 1 ∷ job 43 74 18 2 1 ∷ job 45 100 36 4 1 ∷ []
 
 abbrev pub profileA : Profile
 profileA = profile jobsA
-
-abbrev pub bytesA : List ℕ
-bytesA = 0x13 ∷ 0x01 ∷ 0x40 ∷ 0x19 ∷ 0x00 ∷ 0x12 ∷ 0x00 ∷ 0x04 ∷ 0x10 ∷ 0x02 ∷ 0xB0 ∷ 0x4A ∷ 0x00 ∷ 0x24 ∷ 0x00 ∷ 0x08 ∷ 0x10 ∷ 0x02 ∷ 0xD0 ∷ 0x64 ∷ 0x00 ∷ 0x48 ∷ 0x00 ∷ 0x10 ∷ 0x10 ∷ []
 
 -- One job at 7 seconds (P8).
 abbrev pub atSeven : Profile

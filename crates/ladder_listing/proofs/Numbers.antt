@@ -10,6 +10,7 @@ use Rattle.model.specs.declared.Profile.{Profile}
 use Rattle.model.specs.declared.Verdict.the-variants.{Sound}
 use Rattle.model.specs.Model.{seconds, noJob, entries, jobsOf, lastOf, load, cost, pagesIn, need, rate, jobLoss, loss, refuseIf, orElse, ifSound, firstRefused, judgeIntervalAndStiffness, judgeJob, verdictOf, rowsVerdict}
 use Rattle.model.specs.Climb.{inTurn, climbTo}
+use Rattle.model.specs.ProfileA.{bytesA}
 use Rattle.model.proofs.Validity.{sound-valid}
 use Rattle.codec.specs.Packing.{bits, pack, unpack, recut}
 use Rattle.profile_read.specs.declared.Reading.{Reading}
@@ -24,7 +25,7 @@ use Rattle.table_lookup.proofs.Laid.{few-jobs}
 use Rattle.ladder_listing.specs.declared.Listing.{Listing}
 use Rattle.ladder_line.specs.Lines.{digitsOf, decimal, spaced, spacedPeriods, headerLine, rowLine}
 use Rattle.ladder_listing.specs.Listing.{Prepares}
-use Rattle.ladder_listing.specs.ProfileA.{bytesA, textA}
+use Rattle.ladder_listing.specs.ProfileA.{textA}
 use Rattle.ladder_listing.specs.Text.{rowLines, listingVerdict, textOf, Text, linesTo}
 use Rattle.ladder_listing.proofs.OneText.{text-one}
 use Rattle.ladder_listing.proofs.WholeText.{lines-are-text}
@@ -45,7 +46,7 @@ rowsA : List (List Seconds)
 rowsA = three 25 50 100 ∷ three 24 72 72 ∷ three 23 69 69 ∷ three 22 66 66 ∷ three 21 63 63 ∷ three 20 60 60 ∷ three 25 50 50 ∷ three 24 48 48 ∷ three 23 46 46 ∷ []
 
 reads : Reads bytesA readingA
-unfolding bytesA readingA profileA job verdictOfBytes judgeHeader headerOf judgeRecord judgeIntervalAndStiffness firstRefused orElse refuseIf ifSound recordsIn recut pack unpack bits
+unfolding readingA profileA job verdictOfBytes judgeHeader headerOf judgeRecord judgeIntervalAndStiffness firstRefused orElse refuseIf ifSound recordsIn recut pack unpack bits
 reads = record { verdict = refl; profile = refl }
 
 sound : verdictOf profileA ≡ Sound

@@ -1,19 +1,10 @@
--- Profile A as bytes, and its text (document 01, The ladder program): what the theorems in proofs/Numbers.antt are stated with. No
--- contract cites this. Assumes nothing.
-use mathlib.Core.List.{List, [], _∷_, _++_}
+-- The text of profile A, whose bytes stand in model (document 01, The ladder program): what the theorems in proofs/Numbers.antt are
+-- stated with. No contract cites this. Assumes nothing.
+use mathlib.Core.List.{List, _++_}
 use Prim.Native.Nat.{ℕ}
 use Rattle.ladder_line.specs.Lines.{ascii}
 
--- The 25 bytes of profile A.
-unfoldable pub bytesA : List ℕ
-bytesA =
-    0x13
-    ∷ 0x01 ∷ 0x40 ∷ 0x19 ∷ 0x00 ∷ 0x12 ∷ 0x00 ∷ 0x04 ∷ 0x10
-    ∷ 0x02 ∷ 0xB0 ∷ 0x4A ∷ 0x00 ∷ 0x24 ∷ 0x00 ∷ 0x08 ∷ 0x10
-    ∷ 0x02 ∷ 0xD0 ∷ 0x64 ∷ 0x00 ∷ 0x48 ∷ 0x00 ∷ 0x10 ∷ 0x10
-    ∷ []
-
--- The text that is printed for them.
+-- The text that is printed for its 25 bytes.
 unfoldable pub textA : List ℕ
 textA =
     ascii "jobs 3 rows 9\n"

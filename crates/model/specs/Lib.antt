@@ -1,5 +1,6 @@
 pub mod Climb
 pub mod Model
 pub mod Most
+pub mod ProfileA
 pub mod Testing
 pub mod Valid

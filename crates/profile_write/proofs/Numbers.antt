@@ -1,12 +1,13 @@
 -- The layout, tried on document 01's own bytes: profile A both ways, and with other jobs standing beyond its three.
 -- Each is computed by the checker. Assumes nothing.
 use mathlib.Core.Path.{_≡_, refl}
-use mathlib.Core.List.{List, [], _∷_, flatMap}
+use mathlib.Core.List.{[], _∷_, flatMap}
 use Prim.Native.Nat.{ℕ}
 use Rattle.model.specs.declared.Job.{Job}
 use Rattle.model.specs.declared.Profile.{Profile}
 use Rattle.model.specs.declared.Verdict.the-variants.{Sound, Room}
 use Rattle.model.specs.Model.{seconds, noJob, entries, refuseIf, orElse, firstRefused, judgeIntervalAndStiffness, judgeJob, verdictOf}
+use Rattle.model.specs.ProfileA.{bytesA}
 use Rattle.codec.specs.Packing.{bits, pack, unpack, recut}
 use Rattle.codec.specs.Layout.{recordBytes, profileBytes}
 use Rattle.profile_read.specs.Reading.{headerOf, recordsIn, judgeRecord, judgeHeader, verdictOfBytes, valuesOf}
@@ -15,23 +16,20 @@ use Rattle.profile_write.specs.Writing.{writeVerdict}
 job : ℕ → ℕ → ℕ → ℕ → ℕ → Job
 job lo hi d g w = record { lo = seconds lo; hi = seconds hi; «data» = d; metadata = g; stiffness = w }
 
-bytesA : List ℕ
-bytesA = 0x13 ∷ 0x01 ∷ 0x40 ∷ 0x19 ∷ 0x00 ∷ 0x12 ∷ 0x00 ∷ 0x04 ∷ 0x10 ∷ 0x02 ∷ 0xB0 ∷ 0x4A ∷ 0x00 ∷ 0x24 ∷ 0x00 ∷ 0x08 ∷ 0x10 ∷ 0x02 ∷ 0xD0 ∷ 0x64 ∷ 0x00 ∷ 0x48 ∷ 0x00 ∷ 0x10 ∷ 0x10 ∷ []
-
 -- A's three jobs, then five others
 withBeyond : Job → Profile
 withBeyond j = record { n = 3; jobs = job 20 25 9 1 1 ∷ job 43 74 18 2 1 ∷ job 45 100 36 4 1 ∷ j ∷ j ∷ j ∷ j ∷ j ∷ [] }
 
 accepted : verdictOfBytes bytesA ≡ Sound
-unfolding verdictOfBytes judgeHeader headerOf recut pack unpack bits firstRefused recordsIn judgeRecord judgeIntervalAndStiffness orElse refuseIf bytesA
+unfolding verdictOfBytes judgeHeader headerOf recut pack unpack bits firstRefused recordsIn judgeRecord judgeIntervalAndStiffness orElse refuseIf
 accepted = refl
 
 read : valuesOf bytesA ≡ withBeyond noJob
-unfolding headerOf recut pack unpack bits recordsIn bytesA withBeyond job
+unfolding headerOf recut pack unpack bits recordsIn withBeyond job
 read = refl
 
 written : (j : Job) → profileBytes (withBeyond j) ≡ bytesA
-unfolding profileBytes recordBytes flatMap recut pack unpack bits entries bytesA withBeyond job
+unfolding profileBytes recordBytes flatMap recut pack unpack bits entries withBeyond job
 written j = refl
 
 room-enough : (j : Job) → writeVerdict (withBeyond j) 25 ≡ Sound
