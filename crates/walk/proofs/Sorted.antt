@@ -7,7 +7,7 @@ use native.Mathlib.Omega.{arith}
 use native.Mathlib.Nat.{le-refl}
 use Rattle.model.specs.declared.Seconds.{Seconds}
 use Rattle.model.specs.Model.{Rising, NotAfter}
-use Rattle.model.proofs.Lists.{in-flat, rising-append}
+use Rattle.model.proofs.Lists.{in-flat, rising-append, rising-map}
 use Rattle.walk.specs.Laws.{Earlier, Sorted}
 
 -- no list comes after itself
@@ -32,13 +32,7 @@ earlier-tail : (t : Seconds) {ts us : List Seconds} → Earlier ts us → Earlie
 earlier-tail t h = record { not-after = (le-refl _, λ e. h .not-after); differ = λ e. h .differ (tail-eq-of-cons-eq e) }
 
 sorted-map : (t : Seconds) (xs : List (List Seconds)) → Sorted xs → Sorted (map (λ ts. t ∷ ts) xs)
-sorted-map t [] h = tt
-sorted-map t (x ∷ xs) h = (later, sorted-map t xs (h .1))
-  where
-    later : (y : List Seconds) → List·Memᴰ y (map (λ ts. t ∷ ts) xs) → Earlier (t ∷ x) y
-    later y m =
-        let r = Memᴰ·of-map (λ (ts : List Seconds). t ∷ ts) xs m in
-        subst (λ (l : List Seconds). Earlier (t ∷ x) l) (r .2) (earlier-tail t (h .0 (r .0) (r .1)))
+sorted-map t xs h = rising-map Earlier (λ (ts : List Seconds). t ∷ ts) (λ us vs. earlier-tail t {ts = us} {us = vs}) xs h
 
 -- rising first periods, each before a sorted list of lists
 pub sorted-flat : (f : Seconds → List (List Seconds)) → ((t : Seconds) → Sorted (f t)) → (ts : List Seconds) → RisingPeriods ts → Sorted (flatMap (λ t. map (λ us. t ∷ us) (f t)) ts)
