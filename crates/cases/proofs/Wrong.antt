@@ -11,8 +11,9 @@ use borrow.Author.Tests.{eqb-false}
 use Rattle.model.specs.declared.Profile.{Profile}
 use Rattle.model.specs.declared.Counted.{Counted}
 use Rattle.model.specs.declared.Seconds.{Seconds}
+use Rattle.model.specs.declared.Verdict.{Verdict}
 use Rattle.model.specs.declared.Verdict.the-variants.{Sound}
-use Rattle.model.specs.Model.{seconds, pagesPerHour, jobsOf, verdictOf, rowsVerdict, PutsRows}
+use Rattle.model.specs.Model.{seconds, pagesPerHour, jobsOf, verdictOf, PutsFront}
 use Rattle.model.specs.ProfileA.{bytesA}
 use Rattle.model.proofs.Verdicts.{beside-sound, both-sound}
 use Rattle.profile_write.specs.Writing.{Writes}
@@ -102,11 +103,8 @@ no-idle-writer f nothing meets =
 -- A count is not invented at any input: beside a sound verdict it is the length of the one list of rows, or of zones.
 
 -- where rows are put, the profile is sound and the count is theirs
-counted-rows : {p : Profile} {k : ℕ} {front old new : List ℕ} {r : Counted} → PutsRows p k front old r new → r .verdict ≡ Sound → (verdictOf p ≡ Sound) × (r .count ≡ k)
-unfolding rowsVerdict
-counted-rows {p} {k} puts sound =
-    let v = sym (puts .verdict) ∙ sound in
-    (both-sound (verdictOf p) v .0, puts .count ∙ sym (beside-sound k 0 (sym v)))
+counted-rows : {p : Profile} {next : Verdict} {k : ℕ} {front old new : List ℕ} {r : Counted} → PutsFront p next k front old r new → r .verdict ≡ Sound → (verdictOf p ≡ Sound) × (r .count ≡ k)
+counted-rows {p} {next} {k} puts sound = (both-sound (verdictOf p) (sym (puts .verdict) ∙ sound) .0, puts .count ∙ sym (beside-sound k 0 (sym sound)))
 
 pub count-of-rows : {p : Profile} {old new : List ℕ} {r : Counted} → Built p old r new → r .verdict ≡ Sound → {rs : List (List Seconds)} → TableOf (jobsOf p) rs → r .count ≡ length rs
 count-of-rows {p} built sound table =

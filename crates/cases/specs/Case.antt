@@ -42,21 +42,21 @@ pub data Case : Type 0 where
 abbrev pub Only : (Counted → List ℕ → Type 0) → Counted → List ℕ → Type 0
 Only allows answer left = (r : Counted) (new : List ℕ) → allows r new → (r ≡ answer) × (new ≡ left)
 
--- The same of every lent buffer with room for the `size` bytes that are written: these at the front, the rest as it was.
-abbrev pub InAnyRoom : (List ℕ → Counted → List ℕ → Type 0) → (size : ℕ) → Counted → List ℕ → Type 0
-InAnyRoom allows size answer bytes = (old : List ℕ) → size ≤ length old → Only (allows old) answer (bytes ++ drop size old)
+-- The same of every lent buffer with room for the bytes that are written: these at the front, the rest as it was.
+abbrev pub InAnyRoom : (List ℕ → Counted → List ℕ → Type 0) → Counted → List ℕ → Type 0
+InAnyRoom allows answer bytes = (old : List ℕ) → length bytes ≤ length old → Only (allows old) answer (bytes ++ drop (length bytes) old)
 
 -- A case is right when whatever the public contract allows is what must come out; the permitted lists are these and no others.
 abbrev pub Right : Case → Type 0
 Right (reading bytes answer) = (r : Reading) → Reads bytes r → r ≡ answer
-Right (writing p answer bytes) = InAnyRoom (Writes p) (answer .count) answer bytes
+Right (writing p answer bytes) = InAnyRoom (Writes p) answer bytes
 Right (writingIn p old answer new) = Only (Writes p old) answer new
 Right (permitting p verdict lists) = (verdictOf p ≡ verdict) × (verdict ≡ Sound → (ts : List Seconds) → Permitted (jobsOf p) ts ↔ List·Memᴰ ts lists)
 Right (scoring p ts answer) = (r : Scored) → Scores p ts r → r ≡ answer
 Right (choosing p b answer) = (r : Choice) → Chosen p (pagesPerHour b) r → r ≡ answer
-Right (listing p answer bytes) = InAnyRoom (Listed p) (16 * answer .count) answer bytes
+Right (listing p answer bytes) = InAnyRoom (Listed p) answer bytes
 Right (listingIn p old answer new) = Only (Listed p old) answer new
-Right (building p answer bytes) = InAnyRoom (Built p) (16 * answer .count) answer bytes
+Right (building p answer bytes) = InAnyRoom (Built p) answer bytes
 Right (buildingIn p old answer new) = Only (Built p old) answer new
 Right (lookingUp p table b answer bytes) =
     ((r : Counted) → Locates p table (pagesPerHour b) r → r ≡ answer)

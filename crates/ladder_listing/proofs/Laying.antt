@@ -18,8 +18,9 @@ use Rattle.model.proofs.Verdicts.{sound-passes, beside-sound}
 use Rattle.score.specs.Judging.{firstUnpermitted, scoreVerdict}
 use Rattle.score.proofs.Permission.{permitted-sound}
 use Rattle.table.specs.Table.{tableBytes}
+use Rattle.table.proofs.Outcome.{length-table}
 use Rattle.table_row.specs.Table.{rowsIn, periodsAt}
-use Rattle.table_lookup.proofs.Laid.{Laid, AllPermitted, length-table, row-member, few-jobs, start-at, list-at, loss-at}
+use Rattle.table_lookup.proofs.Laid.{Laid, AllPermitted, row-member, few-jobs, start-at, list-at, loss-at}
 use Rattle.ladder_listing.specs.declared.Listing.{Listing}
 use Rattle.ladder_line.specs.Lines.{headerLine, rowLine}
 use Rattle.ladder_listing.specs.Listing.{lineOfRow, lineAt}

@@ -3,17 +3,16 @@
 use mathlib.Core.Path.{_≡_, refl, sym, _∙_, ap, ap₂, subst}
 use mathlib.Core.Logic.{⊎-elim}
 use mathlib.Core.List.{List, []}
-use Prim.Native.Nat.{ℕ, zero, suc, _/_}
+use Prim.Native.Nat.{ℕ, zero, suc}
 use lib.ListN.{length}
-use lib.Dec.{eqb, ltb}
 use native.Mathlib.Omega.{arith}
 use borrow.Author.Tests.{lt-ltb, ne-eqb}
 use Rattle.model.specs.declared.Seconds.{Seconds}
 use Rattle.model.specs.declared.Profile.{Profile}
-use Rattle.model.specs.declared.Verdict.the-variants.{Sound, NoPeriods, Room}
-use Rattle.model.specs.Model.{jobsOf, refuseIf, orElse, ifSound, verdictOf, rowsVerdict}
+use Rattle.model.specs.declared.Verdict.the-variants.{Sound}
+use Rattle.model.specs.Model.{jobsOf, refuseIf, orElse, ifSound, verdictOf, countVerdict}
 use Rattle.model.proofs.Verdicts.{Refuses, beside-refusal}
-use Rattle.model.proofs.RowsPut.{none-put}
+use Rattle.model.proofs.FrontPut.{none-put}
 use Rattle.profile_read.specs.declared.Reading.{Reading}
 use Rattle.profile_read.specs.Reading.{verdictOfBytes, valuesOf, noProfile}
 use Rattle.profile_read.proofs.OneOutcome.{reads-one}
@@ -26,7 +25,7 @@ use Rattle.ladder_listing.proofs.Verdicts.{sound-or-refused, refused-fi
 
 -- the refusal of a profile stands, however many rows there are
 refused-decides : (r : Reading) (count : ℕ) → Refuses (verdictOf (r .profile)) → orElse (r .verdict) (verdictOf (r .profile)) ≡ listingVerdict r count
-unfolding listingVerdict rowsVerdict
+unfolding listingVerdict
 refused-decides r count h = ap (orElse (r .verdict)) (sym (refused-first (verdictOf (r .profile)) _ h))
 
 refused-text : (r : Reading) (rows : List (List Seconds)) → Refuses (verdictOf (r .profile)) → textOf r rows ≡ refusalLine (orElse (r .verdict) (verdictOf (r .profile)))
@@ -51,15 +50,14 @@ text-one input one other = one .is ∙ ⊎-elim sound refused (sound-or-refused 
     refused h = refused-text (one .reading) (one .rows) h ∙ sym (refused-text (one .reading) (other .rows) h) ∙ ap (λ (r : Reading). textOf r (other .rows)) same
 
 -- no room is too small for any rows
-no-room : (count : ℕ) → Refuses (refuseIf (eqb count 0) NoPeriods (refuseIf (ltb (0 / 16) count) (Room count) Sound))
+no-room : (count : ℕ) → Refuses (countVerdict count 0)
 unfolding refuseIf
 no-room zero = tt
 no-room (suc count) = rw (ne-eqb (suc count) 0 (λ e. omega arith), lt-ltb 0 (suc count) (omega arith)) tt
 
 -- every profile has its rows, as what building into no room tells of them
-some-rows : (p : Profile) → Built p [] (record { verdict = rowsVerdict p (length (rowsOf p)) 0; count = 0 }) []
-unfolding rowsVerdict
-some-rows p = built p [] (none-put p _ _ [] _ (refused-next (verdictOf p) _ (no-room (length (rowsOf p)))) refl)
+some-rows : (p : Profile) → Built p [] (record { verdict = orElse (verdictOf p) (countVerdict (length (rowsOf p)) 0); count = 0 }) []
+some-rows p = built p [] (none-put p _ _ _ [] _ (refused-next (verdictOf p) _ (no-room (length (rowsOf p)))) refl)
 
 pub text-some : (input : List ℕ) → (text : List ℕ) × Text input text
 text-some input =

@@ -7,10 +7,11 @@ use Prim.Native.Nat.{ℕ, _*_}
 use lib.ListN.{length, drop}
 use Rattle.model.specs.declared.Profile.{Profile}
 use Rattle.model.specs.declared.Verdict.the-variants.{Sound}
-use Rattle.model.specs.Model.{jobsOf, orElse, verdictOf, rowsVerdict}
+use Rattle.model.specs.Model.{jobsOf, orElse, verdictOf, countVerdict}
 use Rattle.model.specs.Valid.{Valid}
 use Rattle.model.proofs.Validity.{sound-valid}
 use Rattle.model.proofs.Verdicts.{Refuses, sound-passes, both-sound, beside-sound, beside-refusal}
+use Rattle.table.specs.Table.{tableBytes}
 use Rattle.table_lookup.proofs.Laid.{Laid, AllPermitted}
 use Rattle.ladder_listing.specs.declared.Listing.{Listing}
 use Rattle.ladder_line.specs.Lines.{refusalLine, headerLine}
@@ -22,8 +23,8 @@ use Rattle.ladder_listing.proofs.Verdicts.{sound-or-refused}
 
 module _ {input old : List ℕ} {l : Listing} {new : List ℕ} (prepared : Prepares input old l new) where
   -- the verdict on building, at the room that is lent
-  at-room : prepared .building .verdict ≡ rowsVerdict (prepared .reading .profile) (length (prepared .built .rows)) (16 * 4096)
-  at-room = prepared .built .puts .verdict ∙ ap (rowsVerdict (prepared .reading .profile) (length (prepared .built .rows))) (prepared .room)
+  at-room : prepared .building .verdict ≡ orElse (verdictOf (prepared .reading .profile)) (countVerdict (length (prepared .built .rows)) (16 * 4096))
+  at-room = prepared .built .puts .verdict ∙ ap (λ (size : ℕ). orElse (verdictOf (prepared .reading .profile)) (countVerdict (length (prepared .built .rows)) size)) (prepared .room)
 
   verdict-is : l .verdict ≡ listingVerdict (prepared .reading) (length (prepared .built .rows))
   unfolding listingVerdict
@@ -31,10 +32,10 @@ module _ {input old : List ℕ} {l : Listing} {new : List ℕ} (prepared : Prepa
 
   -- a refused listing has no rows
   building-refused : Refuses (prepared .building .verdict) → l .rows ≡ 0
-  building-refused h = prepared .rows ∙ prepared .built .puts .count ∙ sym (beside-refusal _ _ h (prepared .built .puts .verdict))
+  building-refused h = prepared .rows ∙ prepared .built .puts .count ∙ sym (beside-refusal _ _ h refl)
 
   reading-refused : Refuses (prepared .reading .verdict) → Refuses (prepared .building .verdict)
-  reading-refused h = subst Refuses (sym (prepared .built .puts .verdict ∙ zeros-build (prepared .reading .profile) _ _ (read-zeros (prepared .read) h))) tt
+  reading-refused h = subst Refuses (sym (prepared .built .puts .verdict ∙ zeros-build (prepared .reading .profile) _ (read-zeros (prepared .read) h))) tt
 
   no-rows : Refuses (l .verdict) → l .rows ≡ 0
   no-rows h =
@@ -49,12 +50,11 @@ module _ {input old : List ℕ} {l : Listing} {new : List ℕ} (prepared : Prepa
 
   -- a sound one has the rows of its table
   module _ (sound : l .verdict ≡ Sound) where
-    built-sound : rowsVerdict (prepared .reading .profile) (length (prepared .built .rows)) (length old) ≡ Sound
-    built-sound = sym (prepared .built .puts .verdict) ∙ both-sound (prepared .reading .verdict) (sym (prepared .verdict) ∙ sound) .1
+    built-sound : prepared .building .verdict ≡ Sound
+    built-sound = both-sound (prepared .reading .verdict) (sym (prepared .verdict) ∙ sound) .1
 
     profile-sound : verdictOf (prepared .reading .profile) ≡ Sound
-    unfolding rowsVerdict
-    profile-sound = both-sound (verdictOf (prepared .reading .profile)) built-sound .0
+    profile-sound = both-sound (verdictOf (prepared .reading .profile)) (sym (prepared .built .puts .verdict) ∙ built-sound) .0
 
     valid : Valid (prepared .reading .profile)
     valid = sound-valid (prepared .reading .profile) profile-sound
@@ -63,7 +63,7 @@ module _ {input old : List ℕ} {l : Listing} {new : List ℕ} (prepared : Prepa
     all-permitted ts m = prepared .built .are profile-sound .some-budget ts m .2 .permitted
 
     laid : Laid (jobsOf (prepared .reading .profile)) (prepared .built .rows) new
-    laid = record { rest = drop (16 * length (prepared .built .rows)) old; is = prepared .built .puts .bytes ∙ sym (beside-sound _ _ (sym built-sound)) }
+    laid = record { rest = drop (length (tableBytes (jobsOf (prepared .reading .profile)) (prepared .built .rows))) old; is = prepared .built .puts .bytes ∙ sym (beside-sound _ _ (sym built-sound)) }
 
     count : l .rows ≡ length (prepared .built .rows)
     count = prepared .rows ∙ prepared .built .puts .count ∙ sym (beside-sound _ _ (sym built-sound))

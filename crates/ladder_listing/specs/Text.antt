@@ -10,7 +10,7 @@ use Rattle.model.specs.declared.Seconds.{Seconds}
 use Rattle.model.specs.declared.Job.{Job}
 use Rattle.model.specs.declared.Verdict.{Verdict}
 use Rattle.model.specs.declared.Verdict.the-variants.{Sound}
-use Rattle.model.specs.Model.{jobsOf, Permitted, need, loss, orElse, ifSound, verdictOf, rowSize, rowsVerdict}
+use Rattle.model.specs.Model.{jobsOf, Permitted, need, loss, orElse, ifSound, verdictOf, rowSize, countVerdict}
 use Rattle.profile_read.specs.declared.Reading.{Reading}
 use Rattle.profile_read.specs.Reading.{Reads}
 use Rattle.table.specs.Table.{TableOf}
@@ -25,7 +25,7 @@ rowLines js (ts ∷ rows) = rowLine (need js ts) (loss js ts) ts ++ rowLines js 
 
 -- The verdict on a listing of `count` rows: the reading's own, then that of building into room for 4,096 rows.
 unfoldable pub listingVerdict : Reading → ℕ → Verdict
-listingVerdict r count = orElse (r .verdict) (rowsVerdict (r .profile) count (rowSize * 4096))
+listingVerdict r count = orElse (r .verdict) (orElse (verdictOf (r .profile)) (countVerdict count (rowSize * 4096)))
 
 -- The whole text: the header and a line for each row of the table, or the refusal alone.
 unfoldable pub textOf : Reading → List (List Seconds) → List ℕ

@@ -2,11 +2,11 @@ pub mod Allowing
 pub mod Bounds
 pub mod Climb
 pub mod Entries
+pub mod FrontPut
 pub mod Lists
 pub mod Numbers
 pub mod OneOutcome
 pub mod ProfileFirst
 pub mod Rounding
-pub mod RowsPut
 pub mod Validity
 pub mod Verdicts

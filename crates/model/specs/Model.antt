@@ -206,13 +206,10 @@ rowSize = 16
 abbrev pub countVerdict : ℕ → ℕ → Verdict
 countVerdict count size = refuseIf (eqb count 0) NoPeriods (refuseIf (ltb (size / rowSize) count) (Room count) Sound)
 
--- The verdict on putting `count` rows into `size` lent bytes: the profile's own, then that (Refusal numbers, order).
-unfoldable pub rowsVerdict : Profile → ℕ → ℕ → Verdict
-rowsVerdict p count size = orElse (verdictOf p) (countVerdict count size)
-
--- What an operation that puts rows into a lent buffer may answer, and leave of one that held `old`: the count, and the rows'
--- bytes, `front`, before the rest; beside a refusal 0, and every byte as it was (The table: room; Refusal numbers).
-pub record PutsRows (p : Profile) (rows : ℕ) (front old : List ℕ) (r : Counted) (new : List ℕ) : Type 0 where
-  pub verdict : r .verdict ≡ rowsVerdict p rows (length old)
-  pub count : r .count ≡ ifSound (rowsVerdict p rows (length old)) rows 0
-  pub bytes : new ≡ ifSound (rowsVerdict p rows (length old)) (front ++ drop (rowSize * rows) old) old
+-- What an operation that puts bytes into a lent buffer may answer, and leave of one that held `old`: the profile's own refusal, else the
+-- `next` verdict; beside a sound one the count, `many`, and the bytes `front` before the rest; beside a refusal 0, and every byte as it
+-- was (The table; Refusal numbers).
+pub record PutsFront (p : Profile) (next : Verdict) (many : ℕ) (front old : List ℕ) (r : Counted) (new : List ℕ) : Type 0 where
+  pub verdict : r .verdict ≡ orElse (verdictOf p) next
+  pub count : r .count ≡ ifSound (r .verdict) many 0
+  pub bytes : new ≡ ifSound (r .verdict) (front ++ drop (length front) old) old

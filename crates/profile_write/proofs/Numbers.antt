@@ -1,17 +1,20 @@
 -- The layout, tried on document 01's own bytes: profile A both ways, and with other jobs standing beyond its three.
 -- Each is computed by the checker. Assumes nothing.
-use mathlib.Core.Path.{_≡_, refl}
-use mathlib.Core.List.{[], _∷_, flatMap}
+use mathlib.Core.Path.{_≡_, refl, _∙_, ap}
+use mathlib.Core.List.{List, [], _∷_, flatMap}
 use Prim.Native.Nat.{ℕ}
+use lib.ListN.{length}
+use lib.Dec.{ltb}
 use Rattle.model.specs.declared.Job.{Job}
 use Rattle.model.specs.declared.Profile.{Profile}
+use Rattle.model.specs.declared.Counted.{Counted}
 use Rattle.model.specs.declared.Verdict.the-variants.{Sound, Room}
 use Rattle.model.specs.Model.{seconds, noJob, entries, refuseIf, orElse, firstRefused, judgeIntervalAndStiffness, judgeJob, verdictOf}
 use Rattle.model.specs.ProfileA.{bytesA}
 use Rattle.codec.specs.Packing.{bits, pack, unpack, recut}
 use Rattle.codec.specs.Layout.{recordBytes, profileBytes}
 use Rattle.profile_read.specs.Reading.{headerOf, recordsIn, judgeRecord, judgeHeader, verdictOfBytes, valuesOf}
-use Rattle.profile_write.specs.Writing.{writeVerdict}
+use Rattle.profile_write.specs.Writing.{Writes}
 
 job : ℕ → ℕ → ℕ → ℕ → ℕ → Job
 job lo hi d g w = record { lo = seconds lo; hi = seconds hi; «data» = d; metadata = g; stiffness = w }
@@ -32,10 +35,16 @@ written : (j : Job) → profileBytes (withBeyond j) ≡ bytesA
 unfolding profileBytes recordBytes flatMap recut pack unpack bits entries withBeyond job
 written j = refl
 
-room-enough : (j : Job) → writeVerdict (withBeyond j) 25 ≡ Sound
-unfolding writeVerdict verdictOf firstRefused judgeJob judgeIntervalAndStiffness orElse refuseIf entries withBeyond job
-room-enough j = refl
+-- 25 bytes are enough, and 24 are not
+module _ (j : Job) (old : List ℕ) {r : Counted} {new : List ℕ} (writes : Writes (withBeyond j) old r new) where
+  in-room : {size : ℕ} → length old ≡ size → r .verdict ≡ orElse (verdictOf (withBeyond j)) (refuseIf (ltb size 25) (Room 25) Sound)
+  unfolding withBeyond
+  in-room size = writes .verdict ∙ ap (λ (k : ℕ). orElse (verdictOf (withBeyond j)) (refuseIf (ltb k 25) (Room 25) Sound)) size
 
-room-too-small : (j : Job) → writeVerdict (withBeyond j) 24 ≡ Room 25
-unfolding writeVerdict verdictOf firstRefused judgeJob judgeIntervalAndStiffness orElse refuseIf entries withBeyond job
-room-too-small j = refl
+  room-enough : length old ≡ 25 → r .verdict ≡ Sound
+  unfolding verdictOf firstRefused judgeJob judgeIntervalAndStiffness orElse refuseIf entries withBeyond job
+  room-enough = in-room
+
+  room-too-small : length old ≡ 24 → r .verdict ≡ Room 25
+  unfolding verdictOf firstRefused judgeJob judgeIntervalAndStiffness orElse refuseIf entries withBeyond job
+  room-too-small = in-room

@@ -29,6 +29,12 @@ length-record-bytes (j ∷ js) =
     length-append (recut jobWidths (byteWidths 8) (fieldsOf j)) (recordBytes js)
     ∙ omega (arith, length-recut jobWidths (byteWidths 8) (fieldsOf j), length-record-bytes js)
 
+pub length-profile-bytes : (p : Profile) → length (profileBytes p) ≡ profileLength (p .n)
+unfolding profileBytes
+length-profile-bytes p =
+    length-append (recut headerWidths (byteWidths 1) (1 ∷ p .n ∷ [])) (recordBytes (jobsOf p))
+    ∙ omega (arith, length-recut headerWidths (byteWidths 1) (1 ∷ p .n ∷ []), length-record-bytes (jobsOf p), length-entries noJob (p .jobs) 0 (p .n))
+
 -- the first byte of a profile of n jobs
 pub header-byte : (n : ℕ) → recut headerWidths (byteWidths 1) (1 ∷ n ∷ []) ≡ (16 + n) ∷ []
 unfolding recut pack unpack bits

@@ -5,7 +5,7 @@ use mathlib.Core.List.{List, [], _∷_, _++_, map, flatMap}
 use Prim.Native.Nat.{ℕ, zero, suc, _+_, _*_, _≤_}
 use native.Mathlib.Nat.{suc-ne-zero}
 use native.Mathlib.Omega.{arith}
-use lib.ListN.{length, getD, take, drop, length-append, length-map, take-append-drop, length-drop}
+use lib.ListN.{length, getD, take, drop, length-map, take-append-drop, length-drop}
 use lib.Seq.{take-at, drop-at}
 use borrow.Author.Tests.{eq-eqb, ne-eqb, le-ltb, eqb-true, not-false}
 use Rattle.model.specs.declared.Job.{Job}
@@ -17,7 +17,7 @@ use Rattle.model.specs.Model.{noJob, entries, jobsOf, refuseIf, ifSound, firstR
 use Rattle.model.specs.Valid.{ValidJob, ValidJobs, Valid}
 use Rattle.model.proofs.Entries.{length-entries, entries-front}
 use Rattle.model.proofs.Validity.{in-range, in-range-sound, sound-valid, valid-sound}
-use Rattle.model.proofs.Verdicts.{test-passed, both-sound, sound-passes}
+use Rattle.model.proofs.Verdicts.{test-passed, both-sound, sound-passes, beside-sound}
 use Rattle.codec.specs.Packing.{recut}
 use Rattle.codec.specs.Layout.{headerWidths, jobWidths, byteWidths, profileLength, fieldsOf, recordBytes, profileBytes}
 use Rattle.codec.specs.Fit.{Within, Bytes}
@@ -27,9 +27,9 @@ use Rattle.profile_read.specs.declared.Reading.{Reading}
 use Rattle.profile_read.specs.Reading.{headerOf, editionOf, countOf, recordsIn, recordsOf, jobOf, spareOf, judgeRecord, judgeHeader, verdictOfBytes, valuesOf, noProfile, Reads}
 use Rattle.profile_read.proofs.Headers.{SoundHeader, sound-header}
 use Rattle.profile_read.proofs.Records.{header-fields, edition-is, count-is, length-records}
-use Rattle.profile_write.specs.Writing.{writeVerdict, Writes}
+use Rattle.profile_write.specs.Writing.{Writes}
 use Rattle.profile_write.specs.Kept.{kept}
-use Rattle.profile_write.proofs.Records.{length-record-bytes, same-bits, header-bits}
+use Rattle.profile_write.proofs.Records.{length-profile-bytes, same-bits, header-bits}
 
 -- Written, then read.
 
@@ -64,10 +64,6 @@ all-fields-sound (j ∷ js) k v = sound-passes {v = judgeRecord (fieldsOf j) (k 
 
 -- the bytes of a valid profile are accepted, and stand for its values
 module _ (p : Profile) (v : Valid p) where
-  bytes-length : length (profileBytes p) ≡ profileLength (p .n)
-  unfolding profileBytes
-  bytes-length = length-append (recut headerWidths (byteWidths 1) (1 ∷ p .n ∷ [])) (recordBytes (jobsOf p)) ∙ omega (arith, length-recut headerWidths (byteWidths 1) (1 ∷ p .n ∷ []), length-record-bytes (jobsOf p), length-entries noJob (p .jobs) 0 (p .n))
-
   header-back : headerOf (profileBytes p) ≡ 1 ∷ p .n ∷ []
   unfolding headerOf profileBytes
   header-back =
@@ -90,7 +86,8 @@ module _ (p : Profile) (v : Valid p) where
   header-sound : judgeHeader (profileBytes p) ≡ Sound
   unfolding judgeHeader refuseIf
   header-sound =
-      simp (ne-eqb (length (profileBytes p)) 0 (omega (arith, bytes-length)), edition-back, count-back, ne-eqb (p .n) 0 (omega arith), le-ltb 8 (p .n) (v .n-to), eq-eqb (length (profileBytes p)) (profileLength (p .n)) bytes-length)
+      let size = length-profile-bytes p in
+      simp (ne-eqb (length (profileBytes p)) 0 (omega (arith, size)), edition-back, count-back, ne-eqb (p .n) 0 (omega arith), le-ltb 8 (p .n) (v .n-to), eq-eqb (length (profileBytes p)) (profileLength (p .n)) size)
 
   bytes-accepted : verdictOfBytes (profileBytes p) ≡ Sound
   unfolding verdictOfBytes
@@ -101,14 +98,12 @@ module _ (p : Profile) (v : Valid p) where
 
 -- what was written reads back as the same values, with zeros beyond n
 pub written-reads-back : (p : Profile) (old : List ℕ) {w : Counted} {new : List ℕ} {r : Reading} → Writes p old w new → w .verdict ≡ Sound → Reads (take (w .count) new) r → (r .verdict ≡ Sound) × (r .profile ≡ kept p)
-unfolding ifSound writeVerdict
+unfolding ifSound
 written-reads-back p old {w} {new} {r} written sound read =
-    let both = both-sound (verdictOf p) (sym (written .verdict) ∙ sound) in
-    let v = sound-valid p (both .0) in
-    let verdict : writeVerdict p (length old) ≡ Sound = sym (written .verdict) ∙ sound in
-    let count : w .count ≡ profileLength (p .n) = written .count ∙ ap (λ (x : Verdict). ifSound x (profileLength (p .n)) 0) verdict in
-    let bytes : new ≡ profileBytes p ++ drop (profileLength (p .n)) old = written .bytes ∙ ap (λ (x : Verdict). ifSound x (profileBytes p ++ drop (profileLength (p .n)) old) old) verdict in
-    let front : take (w .count) new ≡ profileBytes p = ap₂ take count bytes ∙ take-at (profileBytes p) (drop (profileLength (p .n)) old) (profileLength (p .n)) (bytes-length p v) in
+    let v = sound-valid p (both-sound (verdictOf p) (sym (written .verdict) ∙ sound) .0) in
+    let count : w .count ≡ profileLength (p .n) = written .count ∙ sym (beside-sound (profileLength (p .n)) 0 (sym sound)) in
+    let bytes : new ≡ profileBytes p ++ drop (length (profileBytes p)) old = written .bytes ∙ sym (beside-sound _ old (sym sound)) in
+    let front : take (w .count) new ≡ profileBytes p = ap₂ take count bytes ∙ take-at (profileBytes p) (drop (length (profileBytes p)) old) (profileLength (p .n)) (length-profile-bytes p) in
     let accepted : verdictOfBytes (take (w .count) new) ≡ Sound = ap verdictOfBytes front ∙ bytes-accepted p v in (
       read .verdict ∙ accepted,
       read .profile ∙ ap (λ (x : Verdict). ifSound x (valuesOf (take (w .count) new)) noProfile) accepted ∙ ap valuesOf front ∙ values-back p v,
@@ -199,14 +194,15 @@ module _ (bytes : List ℕ) (h : Bytes bytes) (sound : verdictOfBytes bytes ≡ 
 
 -- accepted bytes are written back the same
 pub read-writes-back : (bytes : List ℕ) (old : List ℕ) {r : Reading} {w : Counted} {new : List ℕ} → Bytes bytes → Reads bytes r → r .verdict ≡ Sound → length bytes ≤ length old → Writes (r .profile) old w new → (w .verdict ≡ Sound) × (w .count ≡ length bytes) × (take (w .count) new ≡ bytes)
-unfolding ifSound writeVerdict refuseIf
+unfolding ifSound refuseIf
 read-writes-back bytes old {r} {w} {new} h read sound room written =
     let accepted : verdictOfBytes bytes ≡ Sound = sym (read .verdict) ∙ sound in
     let values : r .profile ≡ valuesOf bytes = read .profile ∙ ap (λ (x : Verdict). ifSound x (valuesOf bytes) noProfile) accepted in
     let n = countOf bytes in
     let size = header bytes h accepted .size in
-    let verdict : writeVerdict (r .profile) (length old) ≡ Sound = ap (λ (p : Profile). writeVerdict p (length old)) values ∙ sound-passes {v = verdictOf (valuesOf bytes)} _ refl (valid-sound (valuesOf bytes) (values-valid bytes h accepted)) ∙ simp (le-ltb (length old) (profileLength n) (omega arith)) in
-    let count : w .count ≡ length bytes = written .count ∙ ap (λ (x : Verdict). ifSound x (profileLength (r .profile .n)) 0) verdict ∙ ap (λ (p : Profile). profileLength (p .n)) values ∙ sym size in
-    let whole : new ≡ profileBytes (r .profile) ++ drop (profileLength (r .profile .n)) old = written .bytes ∙ ap (λ (x : Verdict). ifSound x (profileBytes (r .profile) ++ drop (profileLength (r .profile .n)) old) old) verdict in
-    let front : new ≡ bytes ++ drop (profileLength (r .profile .n)) old = whole ∙ ap (λ (l : List ℕ). l ++ drop (profileLength (r .profile .n)) old) (ap profileBytes values ∙ bytes-kept bytes h accepted) in
-    (written .verdict ∙ verdict, count, ap₂ take count front ∙ take-at bytes _ (length bytes) refl)
+    let wrote = subst (λ (p : Profile). Writes p old w new) values written in
+    let valid = valid-sound (valuesOf bytes) (values-valid bytes h accepted) in
+    let verdict : w .verdict ≡ Sound = wrote .verdict ∙ sound-passes {v = verdictOf (valuesOf bytes)} _ refl valid ∙ simp (le-ltb (length old) (profileLength n) (omega arith)) in
+    let count : w .count ≡ length bytes = wrote .count ∙ sym (beside-sound (profileLength n) 0 (sym verdict)) ∙ sym size in
+    let front : new ≡ bytes ++ drop (length bytes) old = wrote .bytes ∙ sym (beside-sound _ old (sym verdict)) ∙ ap (λ (l : List ℕ). l ++ drop (length l) old) (bytes-kept bytes h accepted) in
+    (verdict, count, ap₂ take count front ∙ take-at bytes (drop (length bytes) old) (length bytes) refl)

@@ -11,7 +11,7 @@ use Rattle.model.specs.declared.Profile.{Profile}
 use Rattle.model.specs.declared.Counted.{Counted}
 use Rattle.model.specs.Model.{jobsOf}
 use Rattle.model.proofs.Lists.{Holds}
-use Rattle.model.proofs.RowsPut.{puts-rows-one}
+use Rattle.model.proofs.FrontPut.{puts-rows-one}
 use Rattle.table.specs.Table.{TableOf, tableBytes, Built}
 use Rattle.table.proofs.Rising.{rows-one-list}
 use denote.Ref.{now}

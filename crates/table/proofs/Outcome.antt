@@ -1,20 +1,23 @@
 -- What building answers: the rows of the one table, put by the rule that all rows share.
 -- Assumes nothing.
-use mathlib.Core.Path.{_≡_, _∙_, ap}
+use mathlib.Core.Path.{_≡_, refl, _∙_, ap}
 use mathlib.Core.Logic.{_↔_}
-use mathlib.Core.List.{List, _++_}
+use mathlib.Core.List.{List, [], _∷_, _++_, flatMap}
 use Prim.Native.Nat.{ℕ, _*_}
 use native.Mathlib.Omega.{arith}
-use lib.ListN.{length, drop}
+use lib.ListN.{length, drop, length-append}
 use Rattle.model.specs.declared.Seconds.{Seconds}
+use Rattle.model.specs.declared.Job.{Job}
 use Rattle.model.specs.declared.Profile.{Profile}
 use Rattle.model.specs.declared.Counted.{Counted}
 use Rattle.model.specs.declared.Verdict.{Verdict}
 use Rattle.model.specs.declared.Verdict.the-variants.{Sound}
-use Rattle.model.specs.Model.{noJob, jobsOf, Permitted, verdictOf, rowSize, countVerdict, PutsRows}
+use Rattle.model.specs.Model.{noJob, jobsOf, Permitted, verdictOf, need, rowSize, countVerdict, PutsFront}
 use Rattle.model.proofs.Entries.{length-entries}
 use Rattle.model.proofs.Validity.{sound-valid}
-use Rattle.model.proofs.RowsPut.{all-put}
+use Rattle.model.proofs.FrontPut.{rows-put}
+use Rattle.table_row.specs.Table.{tableRow}
+use Rattle.table_row.proofs.Words.{length-table-row}
 use Rattle.table.specs.Table.{TableOf, tableBytes, Built}
 use Rattle.table.specs.Descent.{rowsBelow, allBudgets}
 use Rattle.table.proofs.Descent.{descent-table, no-rows}
@@ -31,10 +34,18 @@ none-of p e =
     no-rows (jobsOf p) (v .jobs) (omega (arith, length-entries noJob (p .jobs) 0 (p .n))) (are-rows p e)
 
 -- these rows, put, are what building may answer
-pub built : (p : Profile) (old : List ℕ) {r : Counted} {new : List ℕ} → PutsRows p (length (rowsOf p)) (tableBytes (jobsOf p) (rowsOf p)) old r new → Built p old r new
+pub built : (p : Profile) (old : List ℕ) {r : Counted} {new : List ℕ}
+    → PutsFront p (countVerdict (length (rowsOf p)) (length old)) (length (rowsOf p)) (tableBytes (jobsOf p) (rowsOf p)) old r new → Built p old r new
 built p old put = record { rows = rowsOf p; are = are-rows p; none = none-of p; puts = put }
 
+-- rows one after the other
+pub length-table : (js : List Job) (rows : List (List Seconds)) → length (tableBytes js rows) ≡ rowSize * length rows
+unfolding tableBytes flatMap
+length-table js [] = refl
+length-table js (ts ∷ rows) = length-append (tableRow (need js ts) ts) (tableBytes js rows) ∙ omega (arith, length-table-row (need js ts) ts, length-table js rows)
+
 -- the same, where what was written is told by the rows counted
-pub all-built : (p : Profile) (old : List ℕ) (count : ℕ) → verdictOf p ≡ Sound → count ≡ length (rowsOf p) → {v : Verdict} → v ≡ countVerdict count (length old) → v ≡ Sound → (new : List ℕ) → new ≡ tableBytes (jobsOf p) (rowsOf p) ++ drop (rowSize * count) old
-    → Built p old (record { verdict = Sound; count = count }) new
-all-built p old count sound is told h new e = built p old (all-put p _ _ old count sound is told h new (e ∙ ap (λ (k : ℕ). tableBytes (jobsOf p) (rowsOf p) ++ drop (rowSize * k) old) is))
+pub all-built : (p : Profile) (old : List ℕ) (count : ℕ) → verdictOf p ≡ Sound → count ≡ length (rowsOf p) → {v : Verdict} → v ≡ countVerdict count (length old) → v ≡ Sound
+    → {new : List ℕ} → new ≡ tableBytes (jobsOf p) (rowsOf p) ++ drop (rowSize * count) old → Built p old (record { verdict = Sound; count = count }) new
+all-built p old count sound is told h e =
+    built p old (rows-put p _ _ old count sound is told h (length-table (jobsOf p) (rowsOf p)) (e ∙ ap (λ (k : ℕ). tableBytes (jobsOf p) (rowsOf p) ++ drop (rowSize * k) old) is))

@@ -11,7 +11,7 @@ use Rattle.model.specs.declared.Job.{Job}
 use Rattle.model.specs.declared.Profile.{Profile}
 use Rattle.model.specs.declared.Counted.{Counted}
 use Rattle.model.specs.declared.Verdict.the-variants.{Sound}
-use Rattle.model.specs.Model.{Rising, jobsOf, Permitted, need, Best, verdictOf, PutsRows}
+use Rattle.model.specs.Model.{Rising, jobsOf, Permitted, need, Best, verdictOf, countVerdict, PutsFront}
 use Rattle.table_row.specs.Table.{tableRow}
 
 -- Every list that is best for some 32-bit budget is a row, and nothing else is; each row needs less than every later one, so none
@@ -31,4 +31,4 @@ pub record Built (p : Profile) (old : List ℕ) (r : Counted) (new : List ℕ) :
   pub rows : List (List Seconds)
   pub are : verdictOf p ≡ Sound → TableOf (jobsOf p) rows
   pub none : verdictOf p ≡ Sound → (length rows ≡ 0) ↔ ((ts : List Seconds) → Permitted (jobsOf p) ts → ⊥)
-  pub puts : PutsRows p (length rows) (tableBytes (jobsOf p) rows) old r new
+  pub puts : PutsFront p (countVerdict (length rows) (length old)) (length rows) (tableBytes (jobsOf p) rows) old r new

@@ -65,11 +65,6 @@ module _ (js : List Job) (v : ValidJobs js) (few : length js ≤ 8) (ts : List S
 
 -- Rows one after the other.
 
-pub length-table : (js : List Job) (rows : List (List Seconds)) → length (tableBytes js rows) ≡ 16 * length rows
-unfolding tableBytes flatMap
-length-table js [] = refl
-length-table js (ts ∷ rows) = length-append (tableRow (need js ts) ts) (tableBytes js rows) ∙ omega (arith, length-table-row (need js ts) ts, length-table js rows)
-
 pub row-member : (rows : List (List Seconds)) (k : ℕ) → k < length rows → List·Memᴰ (getD rows k []) rows
 row-member [] k less = absurd (not-suc-le-zero less)
 row-member (ts ∷ rows) zero less = List·Memᴰ·head refl

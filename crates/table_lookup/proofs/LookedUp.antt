@@ -14,7 +14,7 @@ use Rattle.model.specs.declared.Job.{Job}
 use Rattle.model.specs.declared.Profile.{Profile}
 use Rattle.model.specs.declared.Counted.{Counted}
 use Rattle.model.specs.declared.Verdict.the-variants.{Sound, Budget}
-use Rattle.model.specs.Model.{seconds, jobsOf, need, loss, Best, numberOf, verdictOf, rowsVerdict, padded}
+use Rattle.model.specs.Model.{seconds, jobsOf, need, loss, Best, numberOf, verdictOf, padded}
 use Rattle.model.specs.Valid.{ValidJobs, Valid}
 use Rattle.model.proofs.Validity.{sound-valid, valid-sound}
 use Rattle.model.proofs.Verdicts.{both-sound, test-passed, beside-sound}
@@ -23,13 +23,14 @@ use Rattle.choose.specs.Choice.{answered, LeastBudget, Outcome, given, none-per
 use Rattle.choose.proofs.OneOutcome.{one-least-budget}
 use Rattle.table.specs.Table.{TableOf, tableBytes, Built}
 use Rattle.table.proofs.Best.{best-at-need, needs-follow}
+use Rattle.table.proofs.Outcome.{length-table}
 use Rattle.table.proofs.Reading.{first-start}
 use Rattle.table_row.specs.Table.{startAt}
 use Rattle.table_check.specs.Formed.{WellFormed}
 use Rattle.table_lookup.specs.Lookup.{Answers, noRow, Finds, below-first, answering}
 use Rattle.table_lookup.specs.AsChosen.{Shows, LooksUpAs, LooksUpAll}
 use Rattle.table_lookup.proofs.OneOutcome.{finds-one}
-use Rattle.table_lookup.proofs.Laid.{length-table, row-member, member-row, laid-alone, loss-at}
+use Rattle.table_lookup.proofs.Laid.{row-member, member-row, laid-alone, loss-at}
 use Rattle.table_lookup.proofs.InOrder.{table-permitted, starts-rise}
 use Rattle.table_lookup.proofs.TableFormed.{row-start, start-number, row-periods, rows-in, table-well-formed}
 
@@ -112,20 +113,18 @@ pub record HoldsTable (p : Profile) (bytes : List ℕ) : Type 0 where
 
 -- what building wrote is that
 pub built-holds : (p : Profile) (old : List ℕ) {r : Counted} {new : List ℕ} → Built p old r new → r .verdict ≡ Sound → HoldsTable p (take (16 * r .count) new)
-unfolding rowsVerdict
 built-holds p old {r} {new} built e =
     let rows = built .rows in
     let T = tableBytes (jobsOf p) rows in
-    let sound : rowsVerdict p (length rows) (length old) ≡ Sound = sym (built .puts .verdict) ∙ e in
-    let both = both-sound (verdictOf p) sound in
-    let count : r .count ≡ length rows = built .puts .count ∙ sym (beside-sound (length rows) 0 (sym sound)) in
-    let bytes : new ≡ T ++ drop (16 * length rows) old = built .puts .bytes ∙ sym (beside-sound (T ++ drop (16 * length rows) old) old (sym sound)) in
+    let both = both-sound (verdictOf p) (sym (built .puts .verdict) ∙ e) in
+    let count : r .count ≡ length rows = built .puts .count ∙ sym (beside-sound (length rows) 0 (sym e)) in
+    let bytes : new ≡ T ++ drop (length T) old = built .puts .bytes ∙ sym (beside-sound (T ++ drop (length T) old) old (sym e)) in
     record {
       valid = sound-valid p (both .0);
       rows = rows;
       table = built .are (both .0);
       some = eqb-false _ 0 (test-passed _ _ _ tt (both .1) .0);
-      is = ap₂ (λ (k : ℕ) (l : List ℕ). take (16 * k) l) count bytes ∙ take-at T (drop (16 * length rows) old) (16 * length rows) (length-table (jobsOf p) rows);
+      is = ap₂ (λ (k : ℕ) (l : List ℕ). take (16 * k) l) count bytes ∙ take-at T (drop (length T) old) (16 * length rows) (length-table (jobsOf p) rows);
     }
 
 -- Whatever `build_table`, `choose` and `locate` may answer, every budget is looked up in the bytes written as it is chosen for.

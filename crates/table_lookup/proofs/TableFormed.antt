@@ -12,10 +12,11 @@ use Rattle.model.specs.Model.{seconds, noJob, jobsOf, Permitted, need, padded}
 use Rattle.model.specs.Valid.{Valid}
 use Rattle.model.proofs.Entries.{length-entries}
 use Rattle.table.specs.Table.{TableOf, tableBytes}
+use Rattle.table.proofs.Outcome.{length-table}
 use Rattle.table.proofs.TableRows.{getD-padded}
 use Rattle.table_row.specs.Table.{rowsIn, startAt, periodsAt, lossAt}
 use Rattle.table_check.specs.Formed.{GoodRow, WellFormed}
-use Rattle.table_lookup.proofs.Laid.{Laid, length-table, row-member, permitted-length, few-jobs, laid-alone, start-at, periods-at, list-at, loss-at}
+use Rattle.table_lookup.proofs.Laid.{Laid, row-member, permitted-length, few-jobs, laid-alone, start-at, periods-at, list-at, loss-at}
 use Rattle.table_lookup.proofs.InOrder.{table-permitted, starts-rise, losses-fall-along}
 
 module _ (p : Profile) (v : Valid p) {rows : List (List Seconds)} (t : TableOf (jobsOf p) rows) {bytes : List ℕ} (l : Laid (jobsOf p) rows bytes) where

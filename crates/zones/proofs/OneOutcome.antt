@@ -9,7 +9,7 @@ use Rattle.model.specs.declared.Job.{Job}
 use Rattle.model.specs.declared.Profile.{Profile}
 use Rattle.model.specs.declared.Counted.{Counted}
 use Rattle.model.specs.Model.{jobsOf}
-use Rattle.model.proofs.RowsPut.{puts-rows-one}
+use Rattle.model.proofs.FrontPut.{puts-rows-one}
 use Rattle.zone_walk.specs.Zone.{Zone}
 use Rattle.zones.specs.Zones.{ZonesOf, rowsOf, Listed}
 use Rattle.zones.proofs.Rising.{zones-one-list}

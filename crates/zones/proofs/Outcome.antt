@@ -10,7 +10,7 @@ use Rattle.model.specs.declared.Seconds.{Seconds}
 use Rattle.model.specs.declared.Profile.{Profile}
 use Rattle.model.specs.declared.Counted.{Counted}
 use Rattle.model.specs.declared.Verdict.the-variants.{Sound}
-use Rattle.model.specs.Model.{noJob, jobsOf, Permitted, verdictOf, PutsRows}
+use Rattle.model.specs.Model.{noJob, jobsOf, Permitted, verdictOf, countVerdict, PutsFront}
 use Rattle.model.specs.Valid.{Valid}
 use Rattle.model.proofs.Entries.{length-entries}
 use Rattle.model.proofs.Validity.{sound-valid}
@@ -36,7 +36,8 @@ none-of p e =
     none-permitted (jobsOf p) (omega (arith, length-entries noJob (p .jobs) 0 (p .n))) (v .jobs)
 
 -- rows put for this list of zones are what listing may answer
-pub listed : (p : Profile) (old : List ℕ) {r : Counted} {new : List ℕ} → PutsRows p (length (zonesOf p)) (rowsOf (zonesOf p)) old r new → Listed p old r new
+pub listed : (p : Profile) (old : List ℕ) {r : Counted} {new : List ℕ}
+    → PutsFront p (countVerdict (length (zonesOf p)) (length old)) (length (zonesOf p)) (rowsOf (zonesOf p)) old r new → Listed p old r new
 listed p old put = record { zones = zonesOf p; are = are-zones p; none = none-of p; puts = put }
 
 -- the zones of the intervals that stand in the arrays

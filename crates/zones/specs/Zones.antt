@@ -10,7 +10,7 @@ use Rattle.model.specs.declared.Job.{Job}
 use Rattle.model.specs.declared.Profile.{Profile}
 use Rattle.model.specs.declared.Counted.{Counted}
 use Rattle.model.specs.declared.Verdict.the-variants.{Sound}
-use Rattle.model.specs.Model.{seconds, entries, Rising, jobsOf, Permitted, verdictOf, rowSize, PutsRows}
+use Rattle.model.specs.Model.{seconds, entries, Rising, jobsOf, Permitted, verdictOf, rowSize, countVerdict, PutsFront}
 use Rattle.codec.specs.Layout.{byteWidths}
 use Rattle.codec.specs.Packing.{recut}
 use Rattle.zone_walk.specs.Zone.{Zone}
@@ -56,4 +56,4 @@ pub record Listed (p : Profile) (old : List ℕ) (r : Counted) (new : List ℕ) 
   pub zones : List Zone
   pub are : verdictOf p ≡ Sound → ZonesOf (jobsOf p) zones
   pub none : verdictOf p ≡ Sound → (length zones ≡ 0) ↔ ((ts : List Seconds) → Permitted (jobsOf p) ts → ⊥)
-  pub puts : PutsRows p (length zones) (rowsOf zones) old r new
+  pub puts : PutsFront p (countVerdict (length zones) (length old)) (length zones) (rowsOf zones) old r new

@@ -59,7 +59,7 @@ returns-2 c =
       built = b .build-table .ensures;
       verdict = sym (sound-passes _ refl (b .before .enum-told .given .1));
       profile = c .no-profile .ensures ∙ beside-refusal _ _ h refl;
-      rows = beside-refusal _ _ h (puts .verdict) ∙ sym (puts .count);
+      rows = beside-refusal _ _ h refl ∙ sym (puts .count);
       room = size (s .before);
       kept = b .build-table .kept .1 .0 ∙ size (s .before);
     }

@@ -3,10 +3,10 @@
 use mathlib.Core.Path.{_≡_, sym, _∙_}
 use borrow.Author.Needs.{needs}
 use Rattle.model.specs.declared.Verdict.the-variants.{Sound}
-use Rattle.model.specs.Model.{verdictOf, rowsVerdict}
+use Rattle.model.specs.Model.{verdictOf}
 use Rattle.model.proofs.Validity.{sound-valid}
 use Rattle.model.proofs.Verdicts.{refuses, refused-stays}
-use Rattle.model.proofs.RowsPut.{none-put, room-enough, count-refused}
+use Rattle.model.proofs.FrontPut.{none-put, room-enough, count-refused}
 use Rattle.table.proofs.Outcome.{built, all-built}
 use Rattle.table.proofs.build_table.Statement.{statement}
 use Rattle.table.proofs.build_table.Tie as tie
@@ -21,10 +21,9 @@ enum-told : tie.Need-enum-told
 enum-told c = search needs
 
 returns : tie.Need-returns
-unfolding rowsVerdict
 returns c =
     let s = c .before in
-    built _ _ (none-put _ _ _ _ _ (refuses (s .judge .result) (c .match .keys2)) (refused-stays _ (s .judge .ensures) (c .match .keys2)))
+    built _ _ (none-put _ _ _ _ _ _ (refuses (s .judge .result) (c .match .keys2)) (refused-stays _ (s .judge .ensures) (c .match .keys2)))
 
 count-rows-requires : tie.Need-count-rows-requires
 count-rows-requires c κs = sound-valid _ (sound c)
@@ -57,7 +56,7 @@ returns-3 c =
     let e = w .before .before in
     let j = e .before .before in
     let k = j .before in
-    all-built _ _ _ (sound (k .before)) (k .count-rows .ensures) (j .judge-count .ensures) (e .enum-told2 .given .1) _ (w .write-rows .ensures)
+    all-built _ _ _ (sound (k .before)) (k .count-rows .ensures) (j .judge-count .ensures) (e .enum-told2 .given .1) (w .write-rows .ensures)
 
 pub build-table-spec : {M : Type 1} → statement M
 build-table-spec =

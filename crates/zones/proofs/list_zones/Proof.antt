@@ -6,15 +6,16 @@ use Prim.Native.Nat.{ℕ, _*_, _/_, _^_, _≤_, _<_}
 use borrow.Author.Needs.{needs}
 use lib.ListN.{length, drop}
 use Rattle.model.specs.declared.Verdict.the-variants.{Sound}
-use Rattle.model.specs.Model.{verdictOf, rowSize, rowsVerdict}
+use Rattle.model.specs.Model.{verdictOf, rowSize}
 use Rattle.model.proofs.Validity.{sound-valid}
 use Rattle.model.proofs.Verdicts.{refuses, refused-stays}
-use Rattle.model.proofs.RowsPut.{none-put, room-enough, count-refused, all-put}
+use Rattle.model.proofs.FrontPut.{none-put, room-enough, count-refused, rows-put}
 use Rattle.zone_walk.specs.Listing.{Spans, spansFrom, zonesIn}
 use Rattle.zone_walk.specs.Zone.{Zone}
 use Rattle.zones.specs.Zones.{rowsOf}
 use Rattle.zone_walk.proofs.Copied.{spans-within}
 use Rattle.zones.proofs.Outcome.{zonesOf, listed, zones-are, few-zones}
+use Rattle.zones.proofs.ZoneRows.{length-rows}
 use Rattle.zones.proofs.list_zones.Statement.{statement}
 use Rattle.zones.proofs.list_zones.Tie as tie
 
@@ -47,10 +48,9 @@ enum-told : tie.Need-enum-told
 enum-told c = search needs
 
 returns : tie.Need-returns
-unfolding rowsVerdict
 returns c =
     let s = c .before in
-    listed _ _ (none-put _ _ _ _ _ (refuses (s .judge .result) (c .match .keys2)) (refused-stays _ (s .judge .ensures) (c .match .keys2)))
+    listed _ _ (none-put _ _ _ _ _ _ (refuses (s .judge .result) (c .match .keys2)) (refused-stays _ (s .judge .ensures) (c .match .keys2)))
 
 cast-n : tie.Need-cast-n
 cast-n c = search needs
@@ -97,7 +97,7 @@ returns-3 c =
     let old = told k .before .before .before .before .args .out .now in
     let room = room-enough _ _ (sym (j .judge-count .ensures) ∙ e .enum-told2 .given .1) in
     let bytes = w .write-zones2 .ensures .bytes (subst (λ (m : ℕ). m ≤ length old / rowSize) (k .write-zones .ensures .count) room) in
-    listed _ old (all-put _ _ _ old _ (sound (told k)) (counted k) (j .judge-count .ensures) (e .enum-told2 .given .1) _
+    listed _ old (rows-put _ _ _ old _ (sound (told k)) (counted k) (j .judge-count .ensures) (e .enum-told2 .given .1) (length-rows _)
     (bytes ∙ ap (λ (zs : List Zone). rowsOf zs ++ drop (rowSize * length zs) old) (zones-are _ _ _ (k .before .before .before .before .intervals .ensures))))
 
 pub list-zones-spec : {M : Type 1} → statement M
