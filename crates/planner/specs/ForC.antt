@@ -10,10 +10,8 @@ use Rattle.model.specs.Model.{ifSound}
 use Rattle.exchange.specs.Numbers.{resultOf, countedOf}
 
 -- A count or a refusal as one number: that of an answer which the operation allows.
-pub record CountsForC (Allows : Counted → Type 0) (r : ℕ) : Type 0 where
-  pub answer : Counted
-  pub allowed : Allows answer
-  pub result : r ≡ countedOf answer
+abbrev pub CountsForC : (Counted → Type 0) → ℕ → Type 0
+CountsForC Allows r = record { answer : Counted; allowed : Allows answer; result : r ≡ countedOf answer }
 
 -- A verdict as one number, and numbers in a lent array that held `old`: those of an answer which the operation allows; on a
 -- refusal the array as it was.

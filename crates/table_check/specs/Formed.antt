@@ -25,9 +25,8 @@ pub record FirstBadRow (p : Profile) (bytes : List ℕ) (k : ℕ) : Type 0 where
   pub before : (j : ℕ) → j < k → GoodRow p bytes j
 
 -- A length that is a positive multiple of a row's size (The table).
-pub record WholeRows (bytes : List ℕ) : Type 0 where
-  pub some : 1 ≤ length bytes
-  pub whole : length bytes % rowSize ≡ 0
+abbrev pub WholeRows : List ℕ → Type 0
+WholeRows bytes = record { some : 1 ≤ length bytes; whole : length bytes % rowSize ≡ 0 }
 
 -- A well-formed table: such a length, and each row is good (The table).
 pub record WellFormed (p : Profile) (bytes : List ℕ) : Type 0 where

@@ -36,10 +36,8 @@ abbrev pub Locates : Profile → List ℕ → PagesPerHour → Counted → Type 
 Locates p bytes b r = ProfileFirst p noRow (Finds p bytes b) r
 
 -- What `judge_lookup` may answer: the verdict of that.
-pub record JudgesLookup (p : Profile) (bytes : List ℕ) (b : PagesPerHour) (v : Verdict) : Type 0 where
-  pub found : Counted
-  pub located : Locates p bytes b found
-  pub verdict : v ≡ found .verdict
+abbrev pub JudgesLookup : Profile → List ℕ → PagesPerHour → Verdict → Type 0
+JudgesLookup p bytes b v = record { found : Counted; located : Locates p bytes b found; verdict : v ≡ found .verdict }
 
 -- What `lookup` may hand back of a lent table (The table): the sixteen bytes of that row, and where they lie, as a block and a place
 -- in it; beside a refusal none, at the table's own start.
