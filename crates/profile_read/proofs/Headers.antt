@@ -10,7 +10,8 @@ use borrow.Author.Tests.{eqb-true, eqb-false, ltb-false, not-false}
 use Rattle.model.specs.declared.Verdict.the-variants.{Sound}
 use Rattle.model.proofs.Verdicts.{test-passed, neither}
 use Rattle.codec.specs.Layout.{profileLength}
-use Rattle.profile_read.specs.Reading.{editionOf, countOf, judgeHeader}
+use Rattle.profile_read.specs.Reading.{countOf, judgeHeader}
+use Rattle.profile_read.specs.Fields.{editionOf}
 
 pub record SoundHeader (bytes : List ℕ) : Type 0 where
   pub edition : editionOf bytes ≡ 1

@@ -13,8 +13,8 @@ use Rattle.model.specs.declared.Verdict.the-variants.{Sound}
 use Rattle.model.specs.Model.{noJob, orElse, firstRefused, padded}
 use Rattle.codec.specs.Packing.{bits, pack, unpack, recut}
 use Rattle.codec.specs.Layout.{jobWidths, byteWidths}
-use Rattle.profile_read.specs.Reading.{headerOf, editionOf, countOf, recordsIn, jobOf, judgeRecord}
-use Rattle.profile_read.specs.Fields.{fieldsAt, recordOf, judgeCut}
+use Rattle.profile_read.specs.Reading.{headerOf, countOf, recordsIn, jobOf, judgeRecord}
+use Rattle.profile_read.specs.Fields.{editionOf, fieldsAt, recordOf, judgeCut}
 
 -- the two fields of the first byte
 pub header-fields : (bytes : List ℕ) → 1 ≤ length bytes → headerOf bytes ≡ getD bytes 0 0 / 16 ∷ getD bytes 0 0 % 16 ∷ []

@@ -3,7 +3,7 @@
 use mathlib.Core.List.{List, map}
 use mathlib.Core.Bool.{not}
 use Prim.Native.Nat.{ℕ, _+_, _*_}
-use lib.ListN.{take, drop}
+use lib.ListN.{getD, take, drop}
 use lib.Dec.{eqb}
 use Rattle.model.specs.declared.Profile.{Profile}
 use Rattle.model.specs.declared.Verdict.{Verdict}
@@ -12,11 +12,15 @@ use Rattle.model.specs.Model.{refuseIf, orElse, judgeIntervalAndStiffness, padd
 use Rattle.codec.specs.Packing.{recut}
 use Rattle.codec.specs.Layout.{jobWidths, byteWidths}
 use Rattle.profile_read.specs.declared.Record.{Record}
-use Rattle.profile_read.specs.Reading.{jobOf, spareOf, recordsIn}
+use Rattle.profile_read.specs.Reading.{headerOf, jobOf, recordsIn}
+
+-- The edition in the first byte.
+abbrev pub editionOf : List ℕ → ℕ
+editionOf bytes = getD (headerOf bytes) 0 0
 
 -- A record from its fields.
 abbrev pub recordOf : List ℕ → Record
-recordOf fields = record { job = jobOf fields; spare = spareOf fields }
+recordOf fields = record { job = jobOf fields; spare = getD fields 5 0 }
 
 -- The fields of the record at place k, counted from 0.
 abbrev pub fieldsAt : List ℕ → ℕ → List ℕ

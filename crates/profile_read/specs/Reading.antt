@@ -15,12 +15,9 @@ use Rattle.codec.specs.Packing.{recut}
 use Rattle.codec.specs.Layout.{headerWidths, jobWidths, byteWidths, profileLength}
 use Rattle.profile_read.specs.declared.Reading.{Reading}
 
--- The two fields of the first byte.
+-- The two fields of the first byte, edition and n; and that n.
 unfoldable pub headerOf : List ℕ → List ℕ
 headerOf bytes = recut (byteWidths 1) headerWidths (take 1 bytes)
-
-abbrev pub editionOf : List ℕ → ℕ
-editionOf bytes = getD (headerOf bytes) 0 0
 
 abbrev pub countOf : List ℕ → ℕ
 countOf bytes = getD (headerOf bytes) 1 0
@@ -36,18 +33,15 @@ recordsOf bytes = recordsIn (countOf bytes) (drop 1 bytes)
 abbrev pub jobOf : List ℕ → Job
 jobOf fields = record { lo = seconds (getD fields 0 0); hi = seconds (getD fields 1 0); «data» = getD fields 2 0; metadata = getD fields 3 0; stiffness = getD fields 4 0 }
 
-abbrev pub spareOf : List ℕ → ℕ
-spareOf fields = getD fields 5 0
-
--- 5, 6, then 7, for the record numbered k.
+-- 5, 6, then 7, for the record numbered k; its last field holds the spare bits.
 unfoldable pub judgeRecord : List ℕ → ℕ → Verdict
-judgeRecord fields k = orElse (judgeIntervalAndStiffness (jobOf fields) k) (refuseIf (not (eqb (spareOf fields) 0)) (Spare k) Sound)
+judgeRecord fields k = orElse (judgeIntervalAndStiffness (jobOf fields) k) (refuseIf (not (eqb (getD fields 5 0) 0)) (Spare k) Sound)
 
 -- 1, 2, 3, 4: the bytes as a whole.
 unfoldable pub judgeHeader : List ℕ → Verdict
 judgeHeader bytes =
     refuseIf (eqb (length bytes) 0) NoBytes
-    (refuseIf (not (eqb (editionOf bytes) 1)) Edition
+    (refuseIf (not (eqb (getD (headerOf bytes) 0 0) 1)) Edition
     (refuseIf (eqb (countOf bytes) 0 || ltb 8 (countOf bytes)) JobCount
     (refuseIf (not (eqb (length bytes) (profileLength (countOf bytes)))) Length Sound)))
 

@@ -24,7 +24,8 @@ use Rattle.codec.specs.Fit.{Within, Bytes}
 use Rattle.codec.proofs.Bytes.{within-split}
 use Rattle.codec.proofs.Packing.{recut-back, recut-within, length-recut}
 use Rattle.profile_read.specs.declared.Reading.{Reading}
-use Rattle.profile_read.specs.Reading.{headerOf, editionOf, countOf, recordsIn, recordsOf, jobOf, spareOf, judgeRecord, judgeHeader, verdictOfBytes, valuesOf, noProfile, Reads}
+use Rattle.profile_read.specs.Reading.{headerOf, countOf, recordsIn, recordsOf, jobOf, judgeRecord, judgeHeader, verdictOfBytes, valuesOf, noProfile, Reads}
+use Rattle.profile_read.specs.Fields.{editionOf}
 use Rattle.profile_read.proofs.Headers.{SoundHeader, sound-header}
 use Rattle.profile_read.proofs.Records.{header-fields, edition-is, count-is, length-records}
 use Rattle.profile_write.specs.Writing.{Writes}
@@ -138,7 +139,7 @@ record-valid fs k h e =
 record-kept : (fs : List ℕ) (k : ℕ) → Within jobWidths fs → judgeRecord fs k ≡ Sound → fieldsOf (jobOf fs) ≡ fs
 unfolding judgeRecord
 record-kept fs k h e =
-    let spare : spareOf fs ≡ 0 = eqb-true _ _ (not-false _ (test-passed _ _ _ tt (both-sound (judgeIntervalAndStiffness (jobOf fs) k) e .1) .0)) in
+    let spare : getD fs 5 0 ≡ 0 = eqb-true _ _ (not-false _ (test-passed _ _ _ tt (both-sound (judgeIntervalAndStiffness (jobOf fs) k) e .1) .0)) in
     ap (λ (x : ℕ). getD fs 0 0 ∷ getD fs 1 0 ∷ getD fs 2 0 ∷ getD fs 3 0 ∷ getD fs 4 0 ∷ x ∷ []) (sym spare) ∙ six fs h .all
 
 -- records that are all sound are written back the same

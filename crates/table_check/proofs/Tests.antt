@@ -13,10 +13,10 @@ use borrow.Author.Tests.{ltb-true, eqb-true, eqb-false, lt-ltb, eq-eqb}
 use Rattle.model.specs.declared.Seconds.{Seconds}
 use Rattle.model.specs.declared.Job.{Job}
 use Rattle.model.specs.declared.Profile.{Profile}
-use Rattle.model.specs.Model.{seconds, jobsOf, periodsOf, PermittedAfter}
+use Rattle.model.specs.Model.{seconds, jobsOf, periodsOf, PermittedAfter, need}
 use Rattle.model.specs.Testing.{allows}
 use Rattle.model.proofs.Allowing.{both-true, allowed, allowed-back}
-use Rattle.table_row.specs.Table.{rowsIn, startAt, periodsAt, needAt, lossAt}
+use Rattle.table_row.specs.Table.{rowsIn, startAt, periodsAt, lossAt}
 use Rattle.table_check.specs.Formed.{GoodRow}
 use Rattle.table_check.specs.Checks.{Checked, all-good, first-bad}
 
@@ -74,7 +74,7 @@ afterGood p bytes (suc j) = ltb (startAt bytes j .0) (startAt bytes (suc j) .0) 
 unfoldable pub rowGood : Profile → List ℕ → ℕ → Bool
 rowGood p bytes k =
     permits (seconds 1) (jobsOf p) (periodsOf p (periodsAt bytes k))
-    && (zerosFrom (periodsAt bytes k) (p .n) (8 - p .n) && (eqb (needAt p bytes k .0) (startAt bytes k .0) && afterGood p bytes k))
+    && (zerosFrom (periodsAt bytes k) (p .n) (8 - p .n) && (eqb (need (jobsOf p) (periodsOf p (periodsAt bytes k)) .0) (startAt bytes k .0) && afterGood p bytes k))
 
 -- the first of m rows from row k on that is not good, counted from 1; 0 where there is none
 unfoldable pub firstBad : Profile → List ℕ → ℕ → ℕ → ℕ
@@ -100,7 +100,7 @@ module _ (p : Profile) (bytes : List ℕ) (few : p .n ≤ 8) where
   row-only k e =
       let a = both-true (permits (seconds 1) (jobsOf p) (periodsOf p (periodsAt bytes k))) e in
       let b = both-true (zerosFrom (periodsAt bytes k) (p .n) (8 - p .n)) (a .1) in
-      let c = both-true (eqb (needAt p bytes k .0) (startAt bytes k .0)) (b .1) in
+      let c = both-true (eqb (need (jobsOf p) (periodsOf p (periodsAt bytes k)) .0) (startAt bytes k .0)) (b .1) in
       record {
         permitted = permits-only _ _ _ (a .0);
         zeros = λ i past to. zeros-only _ (8 - p .n) (p .n) (b .0) i past (omega arith);

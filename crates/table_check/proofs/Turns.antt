@@ -17,10 +17,10 @@ use Rattle.model.specs.Model.{seconds, pagesPerHour, noJob, jobsOf, periodsOf, 
 use Rattle.model.specs.Testing.{allows}
 use Rattle.model.specs.Valid.{Valid}
 use Rattle.model.proofs.Allowing.{both-true, allowed, allowed-back}
-use Rattle.step.specs.Step.{carried, needAt as needFrom}
+use Rattle.step.specs.Step.{carried, needAt}
 use Rattle.step.proofs.Along.{Along, along-starts, along-allows, along-next, along-beyond, along-permitted, along-need, along-lost}
 use Rattle.table_row.specs.declared.TableRow.{TableRow}
-use Rattle.table_row.specs.Table.{rowsIn, startAt, periodsAt, needAt, lossAt}
+use Rattle.table_row.specs.Table.{rowsIn, startAt, periodsAt, lossAt}
 use Rattle.table_row.specs.Cut.{rowAt, follows}
 use Rattle.table_check.specs.Formed.{GoodRow}
 use Rattle.table_check.specs.Checks.{Checked, all-good, first-bad}
@@ -64,10 +64,10 @@ pub record Scanned (p : Profile) (bytes : List ℕ) (k : ℕ) (row : TableRow) (
   pub permitted : Permitted (jobsOf p) (periodsOf p (periodsAt bytes k))
   pub zeros : (i : ℕ) → p .n ≤ i → i < 8 → getD (periodsAt bytes k) i (seconds 0) .0 ≡ 0
   pub start-is : row .start ≡ startAt bytes k
-  pub need-is : needs ≡ needAt p bytes k
+  pub need-is : needs ≡ need (jobsOf p) (periodsOf p (periodsAt bytes k))
   pub loss-is : lost ≡ lossAt p bytes k
 
-pub scanned-row : {p : Profile} {bytes : List ℕ} {k : ℕ} {row : TableRow} {before : Seconds} {written lost i : ℕ} → Valid p → row ≡ rowAt bytes k → PlacesLeft p (row .periods) before written lost i → 8 ≤ i → Scanned p bytes k row (pagesPerHour (needFrom written before)) lost
+pub scanned-row : {p : Profile} {bytes : List ℕ} {k : ℕ} {row : TableRow} {before : Seconds} {written lost i : ℕ} → Valid p → row ≡ rowAt bytes k → PlacesLeft p (row .periods) before written lost i → 8 ≤ i → Scanned p bytes k row (pagesPerHour (needAt written before)) lost
 scanned-row {p} {bytes} {k} {row} {i} v e l all =
     let past : p .n ≤ i = omega (arith, v .n-to) in
     let same = ap (λ (x : TableRow). x .periods) e in

@@ -6,15 +6,15 @@ use mathlib.Core.List.{List}
 use Prim.Native.Nat.{ℕ, _+_, _%_, _≤_, _<_}
 use lib.ListN.{length, getD}
 use Rattle.model.specs.declared.Profile.{Profile}
-use Rattle.model.specs.Model.{seconds, jobsOf, periodsOf, Permitted, rowSize}
-use Rattle.table_row.specs.Table.{rowsIn, startAt, periodsAt, needAt, lossAt}
+use Rattle.model.specs.Model.{seconds, jobsOf, periodsOf, Permitted, need, rowSize}
+use Rattle.table_row.specs.Table.{rowsIn, startAt, periodsAt, lossAt}
 
 -- A good row: its jobs' periods are permitted and no other place is filled, its start is what they need, and it needs more and loses
 -- less than the row before it, where there is one (The table).
 pub record GoodRow (p : Profile) (bytes : List ℕ) (k : ℕ) : Type 0 where
   pub permitted : Permitted (jobsOf p) (periodsOf p (periodsAt bytes k))
   pub zeros : (i : ℕ) → p .n ≤ i → i < 8 → getD (periodsAt bytes k) i (seconds 0) .0 ≡ 0
-  pub start : needAt p bytes k .0 ≡ startAt bytes k .0
+  pub start : need (jobsOf p) (periodsOf p (periodsAt bytes k)) .0 ≡ startAt bytes k .0
   pub start-rises : (before : ℕ) → k ≡ before + 1 → startAt bytes before .0 < startAt bytes k .0
   pub loss-falls : (before : ℕ) → k ≡ before + 1 → lossAt p bytes k < lossAt p bytes before
 

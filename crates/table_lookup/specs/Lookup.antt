@@ -3,14 +3,14 @@
 -- Assumes nothing.
 use mathlib.Core.Path.{_≡_}
 use mathlib.Core.List.{List, []}
-use Prim.Native.Nat.{ℕ, _+_, _-_, _≤_, _<_}
+use Prim.Native.Nat.{ℕ, _+_, _*_, _-_, _≤_, _<_}
 use Rattle.model.specs.declared.PagesPerHour.{PagesPerHour}
 use Rattle.model.specs.declared.Profile.{Profile}
 use Rattle.model.specs.declared.Counted.{Counted}
 use Rattle.model.specs.declared.Verdict.{Verdict}
 use Rattle.model.specs.declared.Verdict.the-variants.{Sound, Budget, Row}
-use Rattle.model.specs.Model.{ifSound, ProfileFirst}
-use Rattle.table_row.specs.Table.{rowsIn, rowPlace, bytesAt, startAt}
+use Rattle.model.specs.Model.{ifSound, ProfileFirst, rowSize}
+use Rattle.table_row.specs.Table.{rowsIn, bytesAt, startAt}
 use Rattle.table_check.specs.Formed.{FirstBadRow, WholeRows, WellFormed}
 
 -- The row that answers a budget: the last whose start is at most that (The table).
@@ -45,4 +45,4 @@ pub record LooksUp (p : Profile) (bytes : List ℕ) (lies : ℕ × ℕ) (b : Pag
   pub found : Counted
   pub located : Locates p bytes b found
   pub holds : part ≡ ifSound (found .verdict) (bytesAt bytes (found .count - 1)) []
-  pub place : at ≡ (lies .0, lies .1 + rowPlace (found .count - 1))
+  pub place : at ≡ (lies .0, lies .1 + rowSize * (found .count - 1))

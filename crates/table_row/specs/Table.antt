@@ -7,7 +7,7 @@ use lib.ListN.{length, getD, take, drop}
 use Rattle.model.specs.declared.Seconds.{Seconds}
 use Rattle.model.specs.declared.PagesPerHour.{PagesPerHour}
 use Rattle.model.specs.declared.Profile.{Profile}
-use Rattle.model.specs.Model.{seconds, pagesPerHour, entries, jobsOf, periodsOf, need, loss, rowSize}
+use Rattle.model.specs.Model.{seconds, pagesPerHour, entries, jobsOf, periodsOf, loss, rowSize}
 use Rattle.codec.specs.Packing.{recut}
 use Rattle.codec.specs.Layout.{byteWidths}
 
@@ -23,12 +23,9 @@ tableRow start periods = recut tableWidths (byteWidths rowSize) (start .0 ∷ ma
 abbrev pub rowsIn : List ℕ → ℕ
 rowsIn bytes = length bytes / rowSize
 
--- Where row k begins, and its bytes (Packing).
-abbrev pub rowPlace : ℕ → ℕ
-rowPlace k = rowSize * k
-
+-- The bytes of row k (Packing).
 abbrev pub bytesAt : List ℕ → ℕ → List ℕ
-bytesAt bytes k = take rowSize (drop (rowPlace k) bytes)
+bytesAt bytes k = take rowSize (drop (rowSize * k) bytes)
 
 -- The fields of row k: its start, then eight periods (Packing).
 unfoldable pub rowFields : List ℕ → ℕ → List ℕ
@@ -41,9 +38,6 @@ startAt bytes k = pagesPerHour (getD (rowFields bytes k) 0 0)
 abbrev pub periodsAt : List ℕ → ℕ → List Seconds
 periodsAt bytes k = map seconds (drop 1 (rowFields bytes k))
 
--- What row k's first n periods need and lose (Quantities).
-abbrev pub needAt : Profile → List ℕ → ℕ → PagesPerHour
-needAt p bytes k = need (jobsOf p) (periodsOf p (periodsAt bytes k))
-
+-- What row k's first n periods lose (Quantities).
 abbrev pub lossAt : Profile → List ℕ → ℕ → ℕ
 lossAt p bytes k = loss (jobsOf p) (periodsOf p (periodsAt bytes k))

@@ -6,7 +6,8 @@ use mathlib.Core.Bool.{true, false}
 use lib.ListN.{length}
 use lib.Dec.{eqb}
 use Rattle.model.specs.Model.{refuseIf}
-use Rattle.profile_read.specs.Reading.{judgeHeader, editionOf}
+use Rattle.profile_read.specs.Reading.{judgeHeader}
+use Rattle.profile_read.specs.Fields.{editionOf}
 use Rattle.profile_read.proofs.Records.{edition-is}
 use native.Mathlib.Omega.{arith}
 use borrow.Author.Needs.{needs}
