@@ -3,7 +3,7 @@
 -- cites publicly. Need, loss and permitted periods are meant for the jobs of a valid profile. Assumes nothing.
 use mathlib.Core.Path.{_≡_}
 use mathlib.Core.List.{List, [], _∷_, _++_, List·Memᴰ}
-use mathlib.Core.Bool.{Bool, true, false, cond, _||_}
+use mathlib.Core.Bool.{Bool, cond, _||_}
 use Prim.Native.Nat.{ℕ, zero, suc, _+_, _*_, _-_, _/_, _%_, _^_, _≤_}
 use lib.ListN.{length, getD, drop, replicate}
 use lib.Dec.{eqb, ltb}
@@ -158,8 +158,7 @@ detailOf v = toldOf v .1
 
 -- A refusal where a test holds, else what comes after it: the order of the checks (Refusal numbers, order).
 unfoldable pub refuseIf : Bool → Verdict → Verdict → Verdict
-refuseIf true refusal rest = refusal
-refuseIf false refusal rest = rest
+refuseIf test refusal rest = cond test refusal rest
 
 -- The first verdict if it is a refusal; a sound one gives way to the second.
 unfoldable pub orElse : Verdict → Verdict → Verdict
