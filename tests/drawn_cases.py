@@ -41,7 +41,7 @@ def as_answer(verdict, refused, sound):
 
 
 def as_count(verdict, count):
-    return as_answer(verdict, "noNumber", f"number {count}")
+    return as_answer(verdict, "noRow", f"number {count}")
 
 
 # What is asked about. Permitted lists are few, so that the checker computes every case in a moment.
@@ -194,7 +194,7 @@ def choosing():
     verdict, need, loss, ts = judged_values(n, jobs), 0, 0, ()
     if not verdict:
         verdict, (need, loss), ts = chosen(jobs[:n], budget)
-    return f"{as_profile(n, jobs)} {budget}", as_answer(verdict, "refused", f"plan {need} {loss} {as_list(ts)}"), verdict
+    return f"{as_profile(n, jobs)} {budget}", as_answer(verdict, "noChoice", f"plan {need} {loss} {as_list(ts)}"), verdict
 
 
 def looking_up():
@@ -242,8 +242,10 @@ use mathlib.Core.Path.{{refl}}
 use mathlib.Core.List.{{List, [], _∷_, List·Memᴰ}}
 use Rattle.model.specs.declared.Verdict.the-variants.{{{", ".join(v.strip("(){} ") for v in VERDICTS if "below" not in v)}}}
 use Rattle.model.specs.Model.{{seconds}}
-use Rattle.choose.specs.Choice.{{refused}}
-use Rattle.cases.specs.Case.{{Case, Right, {", ".join(KINDS)}, job, values, noValues, plan, scored, noScore, below, number, noNumber}}
+use Rattle.score.specs.Scoring.{{noScore}}
+use Rattle.choose.specs.Choice.{{noChoice}}
+use Rattle.table_lookup.specs.Lookup.{{noRow}}
+use Rattle.cases.specs.Case.{{Case, Right, {", ".join(KINDS)}, job, values, noValues, plan, scored, below, number}}
 use Rattle.cases.proofs.Worked.{{Computed, all-right}}
 """
 CLAIM = """
@@ -273,7 +275,7 @@ def write_crate(repository, name, claims):
         text += CLAIM.format(name=claim, cases="\n    ∷ ".join(f"{case.kind} {case.asked} {case.answer}" for case in cases))
     (crate / "proofs/Drawn.antt").write_text(text)
     with open(repository / "crates.txt", "a") as crates:
-        crates.write(f"{name}: model choose cases\n")
+        crates.write(f"{name}: model score choose table_lookup cases\n")
 
 
 def main():

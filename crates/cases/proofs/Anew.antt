@@ -27,7 +27,7 @@ use Rattle.model.proofs.ProfileFirst.{computed-first}
 use Rattle.score.proofs.Computed.{scoreFor, score-meets}
 use Rattle.score.proofs.OneOutcome.{scores-one}
 use Rattle.choose.specs.declared.Choice.{Choice}
-use Rattle.choose.specs.Choice.{refused, Outcome, Chosen}
+use Rattle.choose.specs.Choice.{noChoice, Outcome, Chosen}
 use Rattle.walk.specs.Chains.{chains}
 use Rattle.walk.specs.Walk.{start, walk, walkDown}
 use Rattle.walk.proofs.Chains.{multiples-lists, chains-only, chains-all}
@@ -53,7 +53,7 @@ use Rattle.cases.specs.Case.{Case, reading, writing, writingIn, permitti
 
 -- choosing: what both walks leave, unless the profile is refused
 unfoldable pub choiceFor : Profile → ℕ → Choice
-choiceFor p b = ifSound (verdictOf p) (settle (walk (pick b) (jobsOf p) start nothing) (walkDown lessNeed (jobsOf p) start none)) (refused (verdictOf p))
+choiceFor p b = ifSound (verdictOf p) (settle (walk (pick b) (jobsOf p) start nothing) (walkDown lessNeed (jobsOf p) start none)) (noChoice (verdictOf p))
 
 choice-meets : (p : Profile) (b : ℕ) → Chosen p (pagesPerHour b) (choiceFor p b)
 unfolding choiceFor

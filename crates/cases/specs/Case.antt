@@ -86,26 +86,20 @@ noValues v = record { verdict = v; profile = noProfile }
 abbrev pub eight : List ℕ → List Seconds
 eight ts = padded (seconds 0) (map seconds ts)
 
--- A choice and a score: need, loss, periods; and no score beside a refusal.
+-- A choice and a score: need, loss, periods. Beside a refusal there is neither, `noChoice` and `noScore`.
 abbrev pub plan : ℕ → ℕ → List ℕ → Choice
 plan q l ts = record { verdict = Sound; periods = eight ts; need = pagesPerHour q; loss = l }
 
 abbrev pub scored : ℕ → ℕ → Scored
 scored q l = record { verdict = Sound; need = pagesPerHour q; loss = l }
 
-abbrev pub noScore : Verdict → Scored
-noScore v = record { verdict = v; need = pagesPerHour 0; loss = 0 }
-
 -- No permitted periods fit a budget below this one.
 abbrev pub below : ℕ → Verdict
 below m = Budget (pagesPerHour m)
 
--- A number of rows or of bytes written, or of the row that answers; and none beside a refusal.
+-- A number of rows or of bytes written, or of the row that answers. Beside a refusal there is none, `noRow`.
 abbrev pub number : ℕ → Counted
 number k = record { verdict = Sound; count = k }
-
-abbrev pub noNumber : Verdict → Counted
-noNumber v = record { verdict = v; count = 0 }
 
 -- A lent buffer of so many bytes.
 abbrev pub lent : ℕ → List ℕ

@@ -9,8 +9,10 @@ use Rattle.model.specs.declared.Profile.{Profile}
 use Rattle.model.specs.declared.Verdict.the-variants.{Sound, NoBytes, Edition, JobCount, Length, Interval, Spare, NoPeriods, Room, Row, Periods}
 use Rattle.model.specs.Model.{seconds}
 use Rattle.model.specs.ProfileA.{bytesA}
-use Rattle.choose.specs.Choice.{refused}
-use Rattle.cases.specs.Case.{Case, reading, writing, writingIn, permitting, scoring, choosing, listing, listingIn, building, buildingIn, lookingUp, job, interval, profile, values, noValues, eight, plan, scored, noScore, below, number, noNumber, lent, rows}
+use Rattle.score.specs.Scoring.{noScore}
+use Rattle.choose.specs.Choice.{noChoice}
+use Rattle.table_lookup.specs.Lookup.{noRow}
+use Rattle.cases.specs.Case.{Case, reading, writing, writingIn, permitting, scoring, choosing, listing, listingIn, building, buildingIn, lookingUp, job, interval, profile, values, noValues, eight, plan, scored, below, number, lent, rows}
 
 -- The profile that document 01 works with, as values; its bytes stand in model.
 abbrev pub jobsA : List Job
@@ -104,12 +106,12 @@ cases =
     ∷ reading (take 9 bytesA ++ (0xFF ∷ drop 10 bytesA)) (noValues (Interval 2))
     ∷ reading (take 24 bytesA ++ (0x11 ∷ [])) (noValues (Spare 3))
     -- room too small, for A's bytes, zones and table: nothing is written
-    ∷ writingIn profileA (lent 24) (noNumber (Room 25)) (lent 24)
-    ∷ listingIn profileA (lent 47) (noNumber (Room 3)) (lent 47)
-    ∷ buildingIn profileA (lent 128) (noNumber (Room 9)) (lent 128)
+    ∷ writingIn profileA (lent 24) (noRow (Room 25)) (lent 24)
+    ∷ listingIn profileA (lent 47) (noRow (Room 3)) (lent 47)
+    ∷ buildingIn profileA (lent 128) (noRow (Room 9)) (lent 128)
     -- P1
-    ∷ choosing profileA 4319 (refused (below 4320))
-    ∷ lookingUp profileA tableA 4319 (noNumber (below 4320)) []
+    ∷ choosing profileA 4319 (noChoice (below 4320))
+    ∷ lookingUp profileA tableA 4319 (noRow (below 4320)) []
     -- P2
     ∷ choosing profileA 4320 (plan 4320 3281956 (25 ∷ 50 ∷ 100 ∷ []))
     ∷ lookingUp profileA tableA 4320 (number 1) (rows (row₁ ∷ []))
@@ -128,15 +130,15 @@ cases =
     ∷ choosing oneList 0xffff_ffff (plan 4423 1166400 (1 ∷ 5 ∷ 35 ∷ []))
     ∷ listing oneList (number 1) (rows ((0x00 ∷ 0x10 ∷ 0x01 ∷ 0x00 ∷ 0x50 ∷ 0x23 ∷ []) ∷ []))
     -- P7
-    ∷ choosing (profile (interval 1 1 ∷ interval 2 4 ∷ interval 35 35 ∷ [])) 0xffff_ffff (refused NoPeriods)
-    ∷ listing (profile (interval 1 1 ∷ interval 2 4 ∷ interval 35 35 ∷ [])) (noNumber NoPeriods) []
-    ∷ building (profile (interval 1 1 ∷ interval 2 4 ∷ interval 35 35 ∷ [])) (noNumber NoPeriods) []
+    ∷ choosing (profile (interval 1 1 ∷ interval 2 4 ∷ interval 35 35 ∷ [])) 0xffff_ffff (noChoice NoPeriods)
+    ∷ listing (profile (interval 1 1 ∷ interval 2 4 ∷ interval 35 35 ∷ [])) (noRow NoPeriods) []
+    ∷ building (profile (interval 1 1 ∷ interval 2 4 ∷ interval 35 35 ∷ [])) (noRow NoPeriods) []
     -- P8
-    ∷ choosing atSeven 514 (refused (below 515))
+    ∷ choosing atSeven 514 (noChoice (below 515))
     ∷ choosing atSeven 515 (plan 515 0 (7 ∷ []))
     -- P9
     ∷ scoring (profile (interval 7 7 ∷ interval 7 7 ∷ [])) (eight (7 ∷ 7 ∷ [])) (scored 1029 0)
-    ∷ choosing (profile (interval 7 7 ∷ interval 7 7 ∷ [])) 1028 (refused (below 1029))
+    ∷ choosing (profile (interval 7 7 ∷ interval 7 7 ∷ [])) 1028 (noChoice (below 1029))
     -- P10: the one row, and its loss
     ∷ building (profile (interval 1801 3600 ∷ [])) (number 1) (rows ((0x00 ∷ 0x00 ∷ 0x00 ∷ 0x01 ∷ 0xE1 ∷ 0x00 ∷ []) ∷ []))
     ∷ choosing (profile (interval 1801 3600 ∷ [])) 2 (plan 1 0 (3600 ∷ []))
@@ -158,9 +160,9 @@ cases =
     ∷ lookingUp profileA (rows (row₁ ∷ row₂ ∷ [])) 4500 (number 2) (rows (row₂ ∷ []))
     ∷ lookingUp profileA (rows (row₁ ∷ row₂ ∷ [])) 0xffff_ffff (number 2) (rows (row₂ ∷ []))
     -- tables that are not well formed: no bytes, a row cut short, falling starts, a row twice, a row of zeros
-    ∷ lookingUp profileA [] 4320 (noNumber (Row 0)) []
-    ∷ lookingUp profileA (take 31 (rows (row₁ ∷ row₂ ∷ []))) 4320 (noNumber (Row 0)) []
-    ∷ lookingUp profileA (rows (row₂ ∷ row₁ ∷ [])) 4500 (noNumber (Row 2)) []
-    ∷ lookingUp profileA (rows (row₁ ∷ row₁ ∷ [])) 4320 (noNumber (Row 2)) []
-    ∷ lookingUp profileA (rows ([] ∷ [])) 4320 (noNumber (Row 1)) []
+    ∷ lookingUp profileA [] 4320 (noRow (Row 0)) []
+    ∷ lookingUp profileA (take 31 (rows (row₁ ∷ row₂ ∷ []))) 4320 (noRow (Row 0)) []
+    ∷ lookingUp profileA (rows (row₂ ∷ row₁ ∷ [])) 4500 (noRow (Row 2)) []
+    ∷ lookingUp profileA (rows (row₁ ∷ row₁ ∷ [])) 4320 (noRow (Row 2)) []
+    ∷ lookingUp profileA (rows ([] ∷ [])) 4320 (noRow (Row 1)) []
     ∷ []

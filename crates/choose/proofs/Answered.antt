@@ -12,7 +12,7 @@ use Rattle.model.specs.declared.Job.{Job}
 use Rattle.model.specs.declared.Verdict.the-variants.{NoPeriods, Budget}
 use Rattle.model.specs.Model.{seconds, pagesPerHour, PermittedAfter}
 use Rattle.model.specs.Valid.{ValidJobs}
-use Rattle.choose.specs.Choice.{refused, Outcome}
+use Rattle.choose.specs.Choice.{noChoice, Outcome}
 use Rattle.choose.specs.Least.{LeastOrNone}
 use Rattle.walk.specs.Walk.{start, walk, walkDown}
 use Rattle.choose_offer.specs.Found.{nothing, found, pick}
@@ -70,10 +70,10 @@ module _ {spans pages rates stiffnesses : List ℕ} {n : ℕ} {js : List Job} (h
       unfolding leastIn
       least-or-none = subst (LeastOrNone js) (sym (l stiffnesses js 0 [] held)) (walk-least down-lists js (held-valid js held))
 
-      pub none-right : r .0 ≡ noNeed → Outcome js b (refused NoPeriods)
+      pub none-right : r .0 ≡ noNeed → Outcome js b (noChoice NoPeriods)
       unfolding settle
       none-right e = settled js b nothing none none-found (subst (LeastOrNone js) (no-least r e) least-or-none)
 
-      pub least-right : (r .0 ≡ noNeed → ⊥) → Outcome js b (refused (Budget r))
+      pub least-right : (r .0 ≡ noNeed → ⊥) → Outcome js b (noChoice (Budget r))
       unfolding settle
       least-right some = settled js b nothing (least (r .0)) none-found (subst (LeastOrNone js) (some-least r some) least-or-none)

@@ -13,7 +13,7 @@ use Rattle.model.specs.declared.Verdict.the-variants.{Budget}
 use Rattle.model.specs.Model.{seconds, pagesPerHour, need, loss, NotAfter, NoWorse, Best}
 use Rattle.model.proofs.ProfileFirst.{one-first}
 use Rattle.choose.specs.declared.Choice.{Choice}
-use Rattle.choose.specs.Choice.{answered, refused, LeastBudget, Outcome, given, none-permitted, none-fit, Chosen}
+use Rattle.choose.specs.Choice.{answered, noChoice, LeastBudget, Outcome, given, none-permitted, none-fit, Chosen}
 use Rattle.choose.proofs.choose.Reads as choose-contract
 
 -- two lists of which neither comes after the other are one list
@@ -52,7 +52,7 @@ one-outcome (none-permitted no-list) (none-permitted no-list′) = refl
 one-outcome (none-permitted no-list) (none-fit l unfit) = absurd (no-list _ (l .enough .1))
 one-outcome (none-fit l unfit) (given y) = absurd (unfit _ (y .permitted) (y .fits))
 one-outcome (none-fit l unfit) (none-permitted no-list) = absurd (no-list _ (l .enough .1))
-one-outcome (none-fit l unfit) (none-fit l′ unfit′) = ap (λ (m : PagesPerHour). refused (Budget m)) (one-least-budget l l′)
+one-outcome (none-fit l unfit) (none-fit l′ unfit′) = ap (λ (m : PagesPerHour). noChoice (Budget m)) (one-least-budget l l′)
 
 pub chosen-one : (p : Profile) (b : PagesPerHour) {r s : Choice} → Chosen p b r → Chosen p b s → r ≡ s
 chosen-one p b one other = one-first one-outcome one other

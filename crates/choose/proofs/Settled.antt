@@ -9,7 +9,7 @@ use Rattle.model.specs.declared.Profile.{Profile}
 use Rattle.model.specs.declared.Verdict.the-variants.{Sound}
 use Rattle.model.specs.Model.{seconds, pagesPerHour, jobsOf, verdictOf, padded}
 use Rattle.choose.specs.declared.Choice.{Choice}
-use Rattle.choose.specs.Choice.{answered, refused, Chosen, Outcome, given, none-permitted, none-fit}
+use Rattle.choose.specs.Choice.{answered, noChoice, Chosen, Outcome, given, none-permitted, none-fit}
 use Rattle.choose_offer.specs.Found.{Found, nothing, found}
 use Rattle.choose_walk.specs.Least.{Least, none, least}
 use Rattle.choose_walk.specs.Best.{BestOrNone}
@@ -27,7 +27,7 @@ settled js b nothing none h k = none-permitted k
 
 -- the two ways to meet the contract
 module _ (p : Profile) (b : PagesPerHour) {r : Choice} where
-  pub chosen-refused : (verdictOf p ≡ Sound → ⊥) → r ≡ refused (verdictOf p) → Chosen p b r
+  pub chosen-refused : (verdictOf p ≡ Sound → ⊥) → r ≡ noChoice (verdictOf p) → Chosen p b r
   chosen-refused unsound e = record { own = λ u. e; sound = λ s. absurd (unsound s) }
 
   pub chosen-sound : verdictOf p ≡ Sound → Outcome (jobsOf p) b r → Chosen p b r

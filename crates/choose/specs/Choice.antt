@@ -17,8 +17,8 @@ abbrev pub answered : List Job → List Seconds → Choice
 answered js ts = record { verdict = Sound; periods = padded (seconds 0) ts; need = need js ts; loss = loss js ts }
 
 -- A refusal, and nothing else beside it (Refusal numbers).
-abbrev pub refused : Verdict → Choice
-refused v = record { verdict = v; periods = replicate 8 (seconds 0); need = pagesPerHour 0; loss = 0 }
+abbrev pub noChoice : Verdict → Choice
+noChoice v = record { verdict = v; periods = replicate 8 (seconds 0); need = pagesPerHour 0; loss = 0 }
 
 -- The smallest budget with an answer: some permitted periods fit it, and every budget that some fit is no smaller (Refusal numbers, 10).
 pub record LeastBudget (js : List Job) (m : PagesPerHour) : Type 0 where
@@ -28,9 +28,9 @@ pub record LeastBudget (js : List Job) (m : PagesPerHour) : Type 0 where
 -- What is answered for sound jobs and a budget: the best periods; 9 where none are permitted; 10 where some are and none fit (Refusal numbers, on choosing).
 pub data Outcome (js : List Job) (b : PagesPerHour) : Choice → Type 0 where
   given : {ts : List Seconds} → Best js b ts → Outcome js b (answered js ts)
-  none-permitted : ((ts : List Seconds) → Permitted js ts → ⊥) → Outcome js b (refused NoPeriods)
-  none-fit : {m : PagesPerHour} → LeastBudget js m → ((ts : List Seconds) → Permitted js ts → FitsBudget js ts b → ⊥) → Outcome js b (refused (Budget m))
+  none-permitted : ((ts : List Seconds) → Permitted js ts → ⊥) → Outcome js b (noChoice NoPeriods)
+  none-fit : {m : PagesPerHour} → LeastBudget js m → ((ts : List Seconds) → Permitted js ts → FitsBudget js ts b → ⊥) → Outcome js b (noChoice (Budget m))
 
 -- What is answered for a profile and a budget: the profile's own refusal, and only then the rest (Refusal numbers, order).
 abbrev pub Chosen : Profile → PagesPerHour → Choice → Type 0
-Chosen p b r = ProfileFirst p refused (Outcome (jobsOf p) b) r
+Chosen p b r = ProfileFirst p noChoice (Outcome (jobsOf p) b) r

@@ -10,13 +10,13 @@ use Rattle.walk.specs.Steps.{periodsIn}
 use Rattle.choose_offer.specs.Found.{Found, nothing, found}
 use Rattle.choose_walk.specs.Least.{Least, none, least}
 use Rattle.choose.specs.declared.Choice.{Choice}
-use Rattle.choose.specs.Choice.{refused}
+use Rattle.choose.specs.Choice.{noChoice}
 
 -- What is answered: the plan found; where there is none, 10 with the least need; where there is no need either, 9.
 unfoldable pub settle : Found → Least → Choice
 settle (found q l ts) had = record { verdict = Sound; periods = padded (seconds 0) ts; need = pagesPerHour q; loss = l }
-settle nothing (least m) = refused (Budget (pagesPerHour m))
-settle nothing none = refused NoPeriods
+settle nothing (least m) = noChoice (Budget (pagesPerHour m))
+settle nothing none = noChoice NoPeriods
 
 -- Every number of a best plan but its loss fits 32 bits.
 pub record Small (n : ℕ) (best : List ℕ) : Type 0 where

@@ -12,7 +12,7 @@ use model::Verdict;
 ghost use mathlib.Core.Path.{_≡_};
 ghost use Rattle.model.specs.Model.{jobsOf};
 ghost use Rattle.model.specs.Valid.{Valid};
-ghost use Rattle.choose.specs.Choice.{refused, Outcome, Chosen};
+ghost use Rattle.choose.specs.Choice.{noChoice, Outcome, Chosen};
 ghost use Rattle.choose.specs.Steps.{Small, planIn};
 
 // What `choose` answers: the periods (zeros beyond n), their need and loss; beside a refusal all zeros.
@@ -95,7 +95,7 @@ fn plan(n: usize, best: &[u64; 10]) -> Choice
 
 // A refusal, and nothing beside it.
 fn refusal(v: Verdict) -> Choice
-    ensures { λ r. ⌜ r ≡ refused v ⌝ }
+    ensures { λ r. ⌜ r ≡ noChoice v ⌝ }
 {
     Choice {
         verdict: v,

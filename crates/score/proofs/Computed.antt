@@ -15,7 +15,7 @@ use Rattle.model.proofs.Entries.{length-entries}
 use Rattle.model.proofs.ProfileFirst.{sound-or-not, computed-first}
 use Rattle.model.proofs.Verdicts.{sound-of-zero, both-sound, beside-sound}
 use Rattle.score.specs.declared.Scored.{Scored}
-use Rattle.score.specs.Scoring.{refused, Scoring, all-in, one-out, Scores}
+use Rattle.score.specs.Scoring.{noScore, Scoring, permitted, first-out, Scores}
 use Rattle.score.specs.Judging.{firstUnpermitted, scoreVerdict}
 use Rattle.score.proofs.Permission.{sound-permitted, permitted-sound, permitted-or-first-out}
 use Rattle.score.proofs.OneOutcome.{scores-one}
@@ -25,7 +25,7 @@ unfoldable pub scoredBy : List Job → List Seconds → Verdict → Scored
 scoredBy js ts v = record { verdict = v; need = ifSound v (need js ts) (pagesPerHour 0); loss = ifSound v (loss js ts) 0 }
 
 unfoldable pub scoreFor : Profile → List Seconds → Scored
-scoreFor p ts = ifSound (verdictOf p) (scoredBy (jobsOf p) (periodsOf p ts) (firstUnpermitted 0 (seconds 1) (jobsOf p) (periodsOf p ts))) (refused (verdictOf p))
+scoreFor p ts = ifSound (verdictOf p) (scoredBy (jobsOf p) (periodsOf p ts) (firstUnpermitted 0 (seconds 1) (jobsOf p) (periodsOf p ts))) (noScore (verdictOf p))
 
 -- as many periods as jobs
 as-many : (p : Profile) (ts : List Seconds) → length (jobsOf p) ≡ length (periodsOf p ts)
@@ -36,8 +36,8 @@ judged-scores : (js : List Job) (ts : List Seconds) → length js ≡ length ts 
 unfolding scoredBy ifSound
 judged-scores js ts many =
     ⊎-elim
-    (λ (h : Permitted js ts). subst (λ (v : Verdict). Scoring js ts (scoredBy js ts v)) (sym (permitted-sound 0 (seconds 1) js ts h)) (all-in h))
-    (λ o. subst (λ (v : Verdict). Scoring js ts (scoredBy js ts v)) (sym (o .2)) (one-out (o .1)))
+    (λ (h : Permitted js ts). subst (λ (v : Verdict). Scoring js ts (scoredBy js ts v)) (sym (permitted-sound 0 (seconds 1) js ts h)) (permitted h))
+    (λ o. subst (λ (v : Verdict). Scoring js ts (scoredBy js ts v)) (sym (o .2)) (first-out (o .1)))
     (permitted-or-first-out js ts many)
 
 pub score-meets : (p : Profile) (ts : List Seconds) → Scores p ts (scoreFor p ts)

@@ -9,15 +9,15 @@ use Rattle.model.specs.declared.Profile.{Profile}
 use Rattle.model.specs.declared.Verdict.the-variants.{Periods}
 use Rattle.model.proofs.ProfileFirst.{one-first}
 use Rattle.score.specs.declared.Scored.{Scored}
-use Rattle.score.specs.Scoring.{refused, Scoring, all-in, one-out, Scores}
+use Rattle.score.specs.Scoring.{noScore, Scoring, permitted, first-out, Scores}
 use Rattle.score.proofs.Permission.{permitted-none-out, one-first-out}
 use Rattle.score.proofs.score.Reads as score-contract
 
 scoring-one : {js : List Job} {ts : List Seconds} {r s : Scored} → Scoring js ts r → Scoring js ts s → r ≡ s
-scoring-one (all-in h) (all-in k) = refl
-scoring-one {js} {ts} (all-in h) (one-out f) = absurd (permitted-none-out js ts h f)
-scoring-one {js} {ts} (one-out f) (all-in h) = absurd (permitted-none-out js ts h f)
-scoring-one (one-out f) (one-out g) = ap (λ (k : ℕ). refused (Periods k)) (one-first-out f g)
+scoring-one (permitted h) (permitted k) = refl
+scoring-one {js} {ts} (permitted h) (first-out f) = absurd (permitted-none-out js ts h f)
+scoring-one {js} {ts} (first-out f) (permitted h) = absurd (permitted-none-out js ts h f)
+scoring-one (first-out f) (first-out g) = ap (λ (k : ℕ). noScore (Periods k)) (one-first-out f g)
 
 pub scores-one : (p : Profile) (ts : List Seconds) {r s : Scored} → Scores p ts r → Scores p ts s → r ≡ s
 scores-one p ts one other = one-first scoring-one one other

@@ -18,7 +18,7 @@ use Rattle.model.proofs.Allowing.{allowed-back}
 use Rattle.model.proofs.Entries.{entries-step}
 use Rattle.step.specs.Step.{carried, needAt}
 use Rattle.step.proofs.Along.{jobsFrom, periodsFrom, Along, along-starts, along-next, along-permitted, along-need, along-lost}
-use Rattle.score.specs.Scoring.{refused, FirstOut, here, later, Scoring, all-in, one-out}
+use Rattle.score.specs.Scoring.{noScore, FirstOut, here, later, Scoring, permitted, first-out}
 
 -- before a turn: what the jobs before the k-th have written and lost is carried along, and the first period that is out, if any,
 -- stands among those still to come
@@ -35,8 +35,8 @@ module _ {p : Profile} {ts : List Seconds} {before : Seconds} {written lost k : 
     from-here : {m : ℕ} → FirstOut before (getD (p .jobs) k noJob ∷ jobsFrom p (k + 1)) (getD ts k (seconds 0) ∷ periodsFrom p ts (k + 1)) m → FirstOut (seconds 1) (jobsOf p) (periodsOf p ts) (k + m)
     from-here f = l .out (rw (entries-step noJob (p .jobs) k (p .n) less, entries-step (seconds 0) ts k (p .n) less) f)
 
-    pub period-out : allows (getD (p .jobs) k noJob) before (getD ts k (seconds 0)) ≡ false → Scoring (jobsOf p) (periodsOf p ts) (refused (Periods (k + 1)))
-    period-out e = one-out (from-here (here (λ a. eqb-false 0 1 refl (ap (λ (t : Bool). cond t 1 0) (sym e ∙ allowed-back _ before _ a)))))
+    pub period-out : allows (getD (p .jobs) k noJob) before (getD ts k (seconds 0)) ≡ false → Scoring (jobsOf p) (periodsOf p ts) (noScore (Periods (k + 1)))
+    period-out e = first-out (from-here (here (λ a. eqb-false 0 1 refl (ap (λ (t : Bool). cond t 1 0) (sym e ∙ allowed-back _ before _ a)))))
 
     pub next-job : Valid p → Allowed (getD (p .jobs) k noJob) before (getD ts k (seconds 0)) → JobsLeft p ts (getD ts k (seconds 0)) (carried written before (getD ts k (seconds 0)) (load (getD (p .jobs) k noJob))) (lost + jobLoss (getD (p .jobs) k noJob) (getD ts k (seconds 0))) (k + 1)
     next-job v a = record {
@@ -46,4 +46,4 @@ module _ {p : Profile} {ts : List Seconds} {before : Seconds} {written lost k : 
 
   -- past the last job
   pub all-reckoned : Valid p → p .n ≤ k → Scoring (jobsOf p) (periodsOf p ts) (record { verdict = Sound; need = pagesPerHour (needAt written before); loss = lost })
-  all-reckoned v past = rw (along-need (l .along) past v, along-lost (l .along) past) (all-in (along-permitted (l .along) past))
+  all-reckoned v past = rw (along-need (l .along) past v, along-lost (l .along) past) (permitted (along-permitted (l .along) past))

@@ -11,8 +11,8 @@ use Rattle.model.specs.Model.{seconds, pagesPerHour, jobsOf, periodsOf, Allowed
 use Rattle.score.specs.declared.Scored.{Scored}
 
 -- A refusal, and zeros beside it (Refusal numbers).
-abbrev pub refused : Verdict → Scored
-refused v = record { verdict = v; need = pagesPerHour 0; loss = 0 }
+abbrev pub noScore : Verdict → Scored
+noScore v = record { verdict = v; need = pagesPerHour 0; loss = 0 }
 
 -- The number, from 1, of the first job whose period is not allowed after the one before: those before it are (Refusal numbers, 13).
 pub data FirstOut : Seconds → List Job → List Seconds → ℕ → Type 0 where
@@ -21,9 +21,9 @@ pub data FirstOut : Seconds → List Job → List Seconds → ℕ → Type 0 whe
 
 -- What is answered for sound jobs: need and loss of permitted periods, else 13 with the first that is out (Refusal numbers, on scoring).
 pub data Scoring (js : List Job) (ts : List Seconds) : Scored → Type 0 where
-  all-in : Permitted js ts → Scoring js ts (record { verdict = Sound; need = need js ts; loss = loss js ts })
-  one-out : {k : ℕ} → FirstOut (seconds 1) js ts k → Scoring js ts (refused (Periods k))
+  permitted : Permitted js ts → Scoring js ts (record { verdict = Sound; need = need js ts; loss = loss js ts })
+  first-out : {k : ℕ} → FirstOut (seconds 1) js ts k → Scoring js ts (noScore (Periods k))
 
 -- What `score` may answer for a profile and eight numbers: the profile's own refusal, and only then the rest.
 abbrev pub Scores : Profile → List Seconds → Scored → Type 0
-Scores p ts r = ProfileFirst p refused (Scoring (jobsOf p) (periodsOf p ts)) r
+Scores p ts r = ProfileFirst p noScore (Scoring (jobsOf p) (periodsOf p ts)) r

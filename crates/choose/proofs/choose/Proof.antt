@@ -4,7 +4,7 @@ use borrow.Author.Needs.{needs}
 use mathlib.Core.Path.{_∙_, sym, ap, subst}
 use Rattle.model.proofs.Verdicts.{Refuses, refuses}
 use Rattle.model.proofs.Validity.{sound-valid}
-use Rattle.choose.specs.Choice.{refused}
+use Rattle.choose.specs.Choice.{noChoice}
 use Rattle.choose.proofs.Settled.{chosen-refused, chosen-sound}
 use Rattle.choose.proofs.choose.Statement.{statement}
 use Rattle.choose.proofs.choose.Tie as tie
@@ -22,7 +22,7 @@ returns : tie.Need-returns
 returns c =
     let s = c .before .before .before in
     let v = c .before .before .judge in
-    chosen-refused (s .args .p) (s .args .budget) (λ e. subst Refuses (v .ensures ∙ e) (refuses (v .result) (c .before .match .keys2))) (c .refusal .ensures ∙ ap refused (v .ensures))
+    chosen-refused (s .args .p) (s .args .budget) (λ e. subst Refuses (v .ensures ∙ e) (refuses (v .result) (c .before .match .keys2))) (c .refusal .ensures ∙ ap noChoice (v .ensures))
 
 choose-sound-requires : tie.Need-choose-sound-requires
 choose-sound-requires c κs = sound-valid (c .before .before .before .args .p) (sym (c .before .before .judge .ensures) ∙ c .enum-told .given .1)
