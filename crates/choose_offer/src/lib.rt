@@ -87,16 +87,9 @@ fn keep(n: usize, need: PagesPerHour, loss: u64, periods: &[u32; 8], best: &mut 
     let mut k: usize = 0;
     while k < n {
         let t = periods[k];
-        best[k] = wide(Seconds(t));
+        best[k] = model::wide(Seconds(t));
         k += 1;
     }
     best[NEED] = need.0 as u64;
     best[LOSS] = loss;
-}
-
-// A period as one of the ten numbers of a plan.
-fn wide(t: Seconds) -> u64
-    ensures { λ r. ⌜ r ≡ t .0 ⌝ }
-{
-    t.0 as u64
 }

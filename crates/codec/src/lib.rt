@@ -50,7 +50,7 @@ pub fn word_at(s: &[u8], at: usize) -> u64
     let mut x: u64 = 0;
     let mut k: usize = 0;
     while k < 8 {
-        x = x * 256 + wide(s[at + k]);
+        x = x * 256 + wide_byte(s[at + k]);
         k += 1;
     }
     x
@@ -70,7 +70,7 @@ pub fn put_word(out: &mut [u8], at: usize, word: u64)
     }
 }
 
-pub fn wide(b: u8) -> u64
+pub fn wide_byte(b: u8) -> u64
     ensures { λ r. ⌜ (r ≡ b) × (r < 256) ⌝ }
 {
     b as u64

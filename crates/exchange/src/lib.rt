@@ -94,16 +94,9 @@ pub fn put_answer(need: PagesPerHour, loss: u64, periods: [Seconds; 8], answer: 
     answer[1] = loss;
     let mut k: usize = 0;
     while k < 8 {
-        answer[2 + k] = wide(periods[k]);
+        answer[2 + k] = model::wide(periods[k]);
         k += 1;
     }
-}
-
-// A period as one of these numbers.
-pub fn wide(t: Seconds) -> u64
-    ensures { λ r. ⌜ r ≡ t .0 ⌝ }
-{
-    t.0 as u64
 }
 
 // A count, or the refusal beside which it is 0, as one number.

@@ -213,3 +213,10 @@ pub fn allowed(j: Job, before: Seconds, t: Seconds) -> bool
     }
     t.0 % before.0 == 0
 }
+
+// A period among numbers of 64 bits; for the crates above, which keep the ten numbers of a plan.
+pub fn wide(t: Seconds) -> u64
+    ensures { λ r. ⌜ r ≡ t .0 ⌝ }
+{
+    t.0 as u64
+}

@@ -80,7 +80,7 @@ fn job_count(bytes: &[u8]) -> usize
     requires { ⌜ 1 ≤ length (now bytes) ⌝ }
     ensures { λ r. ⌜ (r ≡ countOf (now (bytes .entry))) × (r < 16) ⌝ }
 {
-    (codec::wide(bytes[0]) % 16) as usize
+    (codec::wide_byte(bytes[0]) % 16) as usize
 }
 
 // The first refusal among n records.

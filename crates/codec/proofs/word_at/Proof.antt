@@ -25,14 +25,14 @@ mul-x c =
     let s = c .before .loop in
     omega (arith, word-room (s .k) (s .x) (s .inv .1) (c .loop-test .taken))
 
-add-wide : tie.Need-add-wide Inv-loop μ-loop
-add-wide c = search needs
+add-wide-byte : tie.Need-add-wide-byte Inv-loop μ-loop
+add-wide-byte c = search needs
 
-shared-slice-read-wide : tie.Need-shared-slice-read-wide Inv-loop μ-loop
-shared-slice-read-wide c = search needs
+shared-slice-read-wide-byte : tie.Need-shared-slice-read-wide-byte Inv-loop μ-loop
+shared-slice-read-wide-byte c = search needs
 
-wide-requires : tie.Need-wide-requires Inv-loop μ-loop
-wide-requires c κs = search needs
+wide-byte-requires : tie.Need-wide-byte-requires Inv-loop μ-loop
+wide-byte-requires c κs = search needs
 
 add-x : tie.Need-add-x Inv-loop μ-loop
 add-x c =
@@ -50,7 +50,7 @@ loop-again c =
     let l = c .before .before .before in
     let s = l .loop in
     let a = l .before .before .args in
-    (omega arith, word-bound (s .k) (s .x) _ (s .inv .1) (c .wide .ensures .1), word-step (a .s .now) (a .at) (s .k) (s .x) (c .wide .result) (l .before .before .pre) (c .before .before .loop-test .taken) (s .inv .2) (c .wide .ensures .0))
+    (omega arith, word-bound (s .k) (s .x) _ (s .inv .1) (c .wide-byte .ensures .1), word-step (a .s .now) (a .at) (s .k) (s .x) (c .wide-byte .result) (l .before .before .pre) (c .before .before .loop-test .taken) (s .inv .2) (c .wide-byte .ensures .0))
 
 returns : tie.Need-returns Inv-loop μ-loop
 returns c =
@@ -67,9 +67,9 @@ word-at-spec =
     μ-loop
     loop-holds
     mul-x
-    add-wide
-    shared-slice-read-wide
-    wide-requires
+    add-wide-byte
+    shared-slice-read-wide-byte
+    wide-byte-requires
     add-x
     add-k
     loop-less

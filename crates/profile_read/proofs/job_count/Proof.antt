@@ -6,16 +6,16 @@ use borrow.Author.Needs.{needs}
 use Rattle.profile_read.proofs.job_count.Statement.{statement}
 use Rattle.profile_read.proofs.job_count.Tie as tie
 
-shared-slice-read-wide : tie.Need-shared-slice-read-wide
-shared-slice-read-wide c = search needs
+shared-slice-read-wide-byte : tie.Need-shared-slice-read-wide-byte
+shared-slice-read-wide-byte c = search needs
 
-wide-requires : tie.Need-wide-requires
-wide-requires c κs = search needs
+wide-byte-requires : tie.Need-wide-byte-requires
+wide-byte-requires c κs = search needs
 
 returns : tie.Need-returns
 returns c =
     let bytes = c .before .before .before .args .bytes .now in
-    (rw (c .wide .ensures .0) (sym (count-is bytes (c .before .before .before .pre))), search needs)
+    (rw (c .wide-byte .ensures .0) (sym (count-is bytes (c .before .before .before .pre))), search needs)
 
 pub job-count-spec : {M : Type 1} → statement M
-job-count-spec = tie.close (tie.spec shared-slice-read-wide wide-requires returns)
+job-count-spec = tie.close (tie.spec shared-slice-read-wide-byte wide-byte-requires returns)
