@@ -1,9 +1,9 @@
 -- The test of a period says what it tests.
 -- Assumes nothing.
-use mathlib.Core.Path.{_≡_, refl, ap}
-use mathlib.Core.Bool.{Bool, true, false, not, cond, _&&_}
+use mathlib.Core.Path.{_≡_, refl, sym}
+use mathlib.Core.Bool.{Bool, true, false, not, _&&_, true≢false}
 use lib.Dec.{ltb}
-use borrow.Author.Tests.{ltb-false, eqb-true, eqb-false, not-true, le-ltb, eq-eqb}
+use borrow.Author.Tests.{ltb-false, eqb-true, not-true, le-ltb, eq-eqb}
 use Rattle.model.specs.declared.Seconds.{Seconds}
 use Rattle.model.specs.declared.Job.{Job}
 use Rattle.model.specs.Model.{Allowed}
@@ -11,7 +11,10 @@ use Rattle.model.specs.Testing.{allows}
 
 pub both-true : (a : Bool) {b : Bool} → (a && b) ≡ true → (a ≡ true) × (b ≡ true)
 both-true true e = (refl, e)
-both-true false e = (e, absurd (eqb-false 0 1 refl (ap (λ (t : Bool). cond t 1 0) e)))
+both-true false e = (e, absurd (true≢false (sym e)))
+
+pub both-hold : {a b : Bool} → a ≡ true → b ≡ true → (a && b) ≡ true
+both-hold f g = rw (f, g)
 
 pub allowed : (j : Job) (before t : Seconds) → allows j before t ≡ true → Allowed j before t
 unfolding allows

@@ -1,9 +1,14 @@
--- Lists joined of parts, and lists that rise: a strict order leaves one rising list of the same entries.
+-- Lists joined of parts, lists stored in parts, and lists that rise: a strict order leaves one rising list of the same entries.
 -- Assumes nothing.
-use mathlib.Core.Path.{_≡_, refl, sym, _∙_, ap₂, subst}
+use mathlib.Core.Path.{_≡_, refl, sym, _∙_, ap, ap₂, subst}
 use mathlib.Core.Logic.{_⊎_, inl, inr, ⊎-elim}
 use mathlib.Core.List.{List, [], _∷_, _++_, map, flatMap}
 use mathlib.Core.List.{List·Memᴰ, List·Memᴰ·head, List·Memᴰ·tail, List·Memᴰ·not-nil, List·Memᴰ·cases-cons, Memᴰ·append-left, Memᴰ·append-right, Memᴰ·cast, Memᴰ·of-map, List·Memᴰ·append-cases}
+use Prim.Native.Nat.{ℕ, suc, _+_}
+use native.Mathlib.Nat.{add-zero}
+use native.Mathlib.Omega.{arith}
+use lib.ListN.{length, set}
+use lib.Seq.{sets}
 use Rattle.model.specs.Model.{Rising}
 
 -- what stands in a joined list stands in one of its parts, and the other way round
@@ -24,6 +29,13 @@ flat-has {A} {B} f {y} {x} (a ∷ xs) m n = ⊎-elim here (λ k. Memᴰ·append-
   where
     here : x ≡ a → List·Memᴰ y (f a ++ flatMap f xs)
     here e = Memᴰ·append-left (flatMap f xs) (subst (λ (b : A). List·Memᴰ y (f b)) e n)
+
+-- one part stored behind the other is both stored at once
+pub sets-append : {A : Type 0} (l : List A) (i : ℕ) (xs ys : List A) → sets (sets l i xs) (i + length xs) ys ≡ sets l i (xs ++ ys)
+sets-append l i [] ys = ap (λ (k : ℕ). sets l k ys) (add-zero i)
+sets-append l i (x ∷ xs) ys =
+    let place : i + suc (length xs) ≡ suc i + length xs = omega arith in
+    ap (λ (k : ℕ). sets (sets (set l i x) (suc i) xs) k ys) place ∙ sets-append (set l i x) (suc i) xs ys
 
 -- every entry of the one list stands in the other
 abbrev pub Holds : {A : Type 0} → List A → List A → Type 0

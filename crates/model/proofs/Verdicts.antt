@@ -2,7 +2,7 @@
 -- Assumes nothing.
 use mathlib.Core.Path.{_≡_, refl, sym, ap, subst}
 use mathlib.Core.List.{List, [], _∷_}
-use mathlib.Core.Bool.{Bool, true, false, cond, _||_}
+use mathlib.Core.Bool.{Bool, true, false, _||_, true≢false}
 use lib.Dec.{T, eqb, ltb}
 use borrow.Author.Tests.{eqb-true, eqb-false, ne-eqb}
 use Prim.Native.Nat.{ℕ, _+_, _-_, _≤_, _<_}
@@ -96,7 +96,7 @@ test-passed false refusal rest h e = (refl, e)
 
 -- nor did either of two
 pub neither : (a : Bool) {b : Bool} → (a || b) ≡ false → (a ≡ false) × (b ≡ false)
-neither true e = absurd (eqb-false 0 1 refl (sym (ap (λ (t : Bool). cond t 1 0) e)))
+neither true e = absurd (true≢false e)
 neither false e = (refl, e)
 
 -- two verdicts in a row that are sound are both sound
