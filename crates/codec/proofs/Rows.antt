@@ -29,7 +29,8 @@ unpack-append (v ∷ vs) us x h =
     let y = x % 2 ^ bits (vs ++ us) in
     let ih = unpack-append vs us y (mod-lt x (pow-pos (bits (vs ++ us)))) in
     let sum = bits-append vs us in
-    let top : x / 2 ^ bits (vs ++ us) ≡ x / 2 ^ bits us / 2 ^ bits vs = ap (λ (n : ℕ). x / 2 ^ n) (sum ∙ add-comm (bits vs) (bits us)) ∙ sym (shr-shr x (bits us) (bits vs)) in
+    let top : x / 2 ^ bits (vs ++ us) ≡ x / 2 ^ bits us / 2 ^ bits vs =
+    ap (λ (n : ℕ). x / 2 ^ n) (sum ∙ add-comm (bits vs) (bits us)) ∙ sym (shr-shr x (bits us) (bits vs)) in
     let mid : y / 2 ^ bits us ≡ x / 2 ^ bits us % 2 ^ bits vs = ap (λ (n : ℕ). x % 2 ^ n / 2 ^ bits us) sum ∙ field x (bits vs) (bits us) in
     let end : y % 2 ^ bits us ≡ x % 2 ^ bits us = ap (λ (n : ℕ). x % 2 ^ n % 2 ^ bits us) sum ∙ mod-mod-pow x (bits vs) (bits us) in
     ap₂ _∷_ top (ih ∙ ap₂ (λ (a b : ℕ). unpack vs a ++ unpack us b) mid end)
@@ -50,18 +51,26 @@ pub row-put : (old mid new : List ℕ) (k h l : ℕ) → k < length old / rowSiz
     → new ≡ withRow old k (rowBytes h l)
 unfolding withRow rowBytes
 row-put old mid new k h l room same first second =
+    let at = rowSize * k in
     let H = unpack (byteWidths 8) h in
     let L = unpack (byteWidths 8) l in
-    let P = take (rowSize * k) old in
-    let D = drop (rowSize * k + 8) old in
-    let front : length P ≡ rowSize * k = length-take-le (rowSize * k) old (omega arith) in
-    let size : length (P ++ H) ≡ rowSize * k + 8 = length-append P H ∙ ap₂ _+_ front (length-unpack (byteWidths 8) h) in
+    let P = take at old in
+    let D = drop (at + 8) old in
+    let E = drop (at + rowSize) old in
+    let front : length P ≡ at = length-take-le at old (omega arith) in
+    let size : length (P ++ H) ≡ at + 8 = length-append P H ∙ ap₂ _+_ front (length-unpack (byteWidths 8) h) in
     let joined : mid ≡ P ++ H ++ D = first ∙ sym (append-assoc P H D) in
-    let before-it : take (rowSize * k + 8) mid ≡ P ++ H = ap (take (rowSize * k + 8)) joined ∙ take-at (P ++ H) D (rowSize * k + 8) size in
-    let place : rowSize * k + 8 + 8 ≡ length (P ++ H) + 8 = omega arith in
-    let next : rowSize * k + 8 + 8 ≡ rowSize * k + rowSize = omega arith in
-    let after-it : drop (rowSize * k + 8 + 8) mid ≡ drop (rowSize * k + rowSize) old = ap (drop (rowSize * k + 8 + 8)) joined ∙ ap (λ (n : ℕ). drop n (P ++ H ++ D)) place ∙ drop-append-add (P ++ H) D 8 ∙ drop-drop 8 (rowSize * k + 8) old ∙ ap (λ (n : ℕ). drop n old) next in
-    rw (lt-ltb k (length old / rowSize) room) (second ∙ ap₂ (λ (a b : List ℕ). a ++ (L ++ b)) before-it after-it ∙ append-assoc P H (L ++ drop (rowSize * k + rowSize) old) ∙ ap (λ (m : List ℕ). P ++ m) (sym (append-assoc H L (drop (rowSize * k + rowSize) old))))
+    let before-it : take (at + 8) mid ≡ P ++ H = ap (take (at + 8)) joined ∙ take-at (P ++ H) D (at + 8) size in
+    let place : at + 8 + 8 ≡ length (P ++ H) + 8 = omega arith in
+    let next : at + 8 + 8 ≡ at + rowSize = omega arith in
+    let after-it : drop (at + 8 + 8) mid ≡ E =
+    ap (drop (at + 8 + 8)) joined
+    ∙ ap (λ (n : ℕ). drop n (P ++ H ++ D)) place
+    ∙ drop-append-add (P ++ H) D 8
+    ∙ drop-drop 8 (at + 8) old
+    ∙ ap (λ (n : ℕ). drop n old) next in
+    let joins = append-assoc P H (L ++ E) ∙ ap (λ (m : List ℕ). P ++ m) (sym (append-assoc H L E)) in
+    rw (lt-ltb k (length old / rowSize) room) (second ∙ ap₂ (λ (a b : List ℕ). a ++ (L ++ b)) before-it after-it ∙ joins)
 
 -- no such row
 pub row-out : (old : List ℕ) (k h l : ℕ) → length old / rowSize ≤ k → old ≡ withRow old k (rowBytes h l)
@@ -85,9 +94,13 @@ pack-append (v ∷ vs) us (f ∷ fs) gs e =
     rw (weight, ih) (omega (arith, add-mul (f * 2 ^ bits vs) (pack vs fs) (2 ^ bits us), mul-assoc f (2 ^ bits vs) (2 ^ bits us)))
 
 -- a row's two words are its sixteen bytes as one number
-pub row-words : (bytes : List ℕ) (k : ℕ) → k < length bytes / rowSize → pack (byteWidths rowSize) (take rowSize (drop (rowSize * k) bytes)) ≡ wordsAt bytes k .high * 2 ^ 64 + wordsAt bytes k .low
+pub row-words : (bytes : List ℕ) (k : ℕ) → k < length bytes / rowSize
+    → pack (byteWidths rowSize) (take rowSize (drop (rowSize * k) bytes)) ≡ wordsAt bytes k .high * 2 ^ 64 + wordsAt bytes k .low
 unfolding wordsAt bits
 row-words bytes k h =
     let rest = drop (rowSize * k) bytes in
     let size : length (take 8 rest) ≡ 8 = length-take-le 8 rest (omega (arith, length-drop (rowSize * k) bytes)) in
-    rw (lt-ltb k (length bytes / rowSize) h) (ap (pack (byteWidths rowSize)) (take-add 8 8 rest) ∙ pack-append (byteWidths 8) (byteWidths 8) (take 8 rest) (take 8 (drop 8 rest)) (sym size) ∙ ap (λ (l : List ℕ). pack (byteWidths 8) (take 8 rest) * 2 ^ 64 + pack (byteWidths 8) (take 8 l)) (drop-drop 8 (rowSize * k) bytes))
+    let low : List ℕ → ℕ = λ l. pack (byteWidths 8) (take 8 rest) * 2 ^ 64 + pack (byteWidths 8) (take 8 l) in
+    let whole = ap (pack (byteWidths rowSize)) (take-add 8 8 rest) in
+    let split = pack-append (byteWidths 8) (byteWidths 8) (take 8 rest) (take 8 (drop 8 rest)) (sym size) in
+    rw (lt-ltb k (length bytes / rowSize) h) (whole ∙ split ∙ ap low (drop-drop 8 (rowSize * k) bytes))

@@ -13,12 +13,15 @@ use Rattle.codec.specs.Packing.{pack, unpack}
 use Rattle.codec.proofs.Packing.{pack-snoc, unpack-low}
 
 -- reading: the number of one byte more
-pub word-step : (s : List ℕ) (at k x b : ℕ) → at + 8 ≤ length s → k < 8 → x ≡ pack (replicate k 8) (take k (drop at s)) → b ≡ getD s (at + k) 0 → x * 256 + b ≡ pack (replicate (k + 1) 8) (take (k + 1) (drop at s))
+pub word-step : (s : List ℕ) (at k x b : ℕ) → at + 8 ≤ length s → k < 8
+    → x ≡ pack (replicate k 8) (take k (drop at s)) → b ≡ getD s (at + k) 0
+    → x * 256 + b ≡ pack (replicate (k + 1) 8) (take (k + 1) (drop at s))
 word-step s at k x b room h e f =
-    let here : k < length (drop at s) = omega (arith, length-drop at s) in
-    let byte : getD (drop at s) k 0 ≡ b = getD-drop at s k 0 ∙ sym f in
-    let grown : take (suc k) (drop at s) ≡ take k (drop at s) ++ (b ∷ []) = take-suc (drop at s) k 0 here ∙ ap (λ (y : ℕ). take k (drop at s) ++ (y ∷ [])) byte in
-    let packed = pack-snoc k (take k (drop at s)) b (length-take-le k (drop at s) (omega arith)) in
+    let rest = drop at s in
+    let here : k < length rest = omega (arith, length-drop at s) in
+    let byte : getD rest k 0 ≡ b = getD-drop at s k 0 ∙ sym f in
+    let grown : take (suc k) rest ≡ take k rest ++ (b ∷ []) = take-suc rest k 0 here ∙ ap (λ (y : ℕ). take k rest ++ (y ∷ [])) byte in
+    let packed = pack-snoc k (take k rest) b (length-take-le k rest (omega arith)) in
     rw (e, add-one k, grown, packed)
 
 pub word-bound : (k x b : ℕ) → x < 2 ^ (8 * k) → b < 256 → x * 256 + b < 2 ^ (8 * (k + 1))
@@ -41,7 +44,8 @@ pub nothing-stored : (old : List ℕ) (at word : ℕ) → Stored old at word old
 unfolding unpack
 nothing-stored old at word = record { upto = omega arith; same = refl; left = sym (div-one word); bytes = sym (take-append-drop (at + 8) old) }
 
-pub all-stored : (old : List ℕ) (at word : ℕ) (out : List ℕ) (x : ℕ) → word < 2 ^ 64 → Stored old at word out x 0 → out ≡ take at old ++ (unpack (replicate 8 8) word ++ drop (at + 8) old)
+pub all-stored : (old : List ℕ) (at word : ℕ) (out : List ℕ) (x : ℕ) → word < 2 ^ 64 → Stored old at word out x 0
+    → out ≡ take at old ++ (unpack (replicate 8 8) word ++ drop (at + 8) old)
 all-stored old at word out x h s = rw (s .bytes, add-zero at, mod-eq-of-lt h)
 
 -- the m-th byte, when j stand behind it
@@ -52,20 +56,28 @@ put-step old out at m j word room h e =
     let next : at + suc m ≡ suc (at + m) = omega arith in
     let here : at + m < length old = omega arith in
     let rest = unpack (replicate j 8) (word % 2 ^ (8 * j)) ++ drop (at + 8) old in
-    let split : take (at + suc m) old ++ rest ≡ take (at + m) old ++ (getD old (at + m) 0 ∷ rest) = ap (λ (n : ℕ). take n old ++ rest) next ∙ ap (λ (l : List ℕ). l ++ rest) (take-suc old (at + m) 0 here) ∙ append-snoc (take (at + m) old) (getD old (at + m) 0) rest in
-    ap (λ (l : List ℕ). set l (at + m) (word / 2 ^ (8 * j) % 256)) (e ∙ split)
-    ∙ set-at (take (at + m) old) (getD old (at + m) 0) rest (word / 2 ^ (8 * j) % 256) (at + m) (length-take-le (at + m) old (omega arith))
+    let byte = getD old (at + m) 0 in
+    let split : take (at + suc m) old ++ rest ≡ take (at + m) old ++ (byte ∷ rest) =
+    ap (λ (n : ℕ). take n old ++ rest) next
+    ∙ ap (λ (l : List ℕ). l ++ rest) (take-suc old (at + m) 0 here)
+    ∙ append-snoc (take (at + m) old) byte rest in
+    let put = word / 2 ^ (8 * j) % 256 in
+    ap (λ (l : List ℕ). set l (at + m) put) (e ∙ split)
+    ∙ set-at (take (at + m) old) byte rest put (at + m) (length-take-le (at + m) old (omega arith))
     ∙ sym (ap (λ (l : List ℕ). take (at + m) old ++ (l ++ drop (at + 8) old)) (unpack-low j word))
 
-pub one-stored : (old : List ℕ) (at word : ℕ) (out : List ℕ) (x k : ℕ) → at + 8 ≤ length old → 0 < k → Stored old at word out x k → Stored old at word (set out (at + (k - 1)) (x % 256)) (x / 256) (k - 1)
+pub one-stored : (old : List ℕ) (at word : ℕ) (out : List ℕ) (x k : ℕ) → at + 8 ≤ length old → 0 < k → Stored old at word out x k
+    → Stored old at word (set out (at + (k - 1)) (x % 256)) (x / 256) (k - 1)
 one-stored old at word out x k room h s =
     let j = 8 - k in
     let now-left : k ≡ suc (k - 1) = omega arith in
     let then-stored : 8 - (k - 1) ≡ suc j = omega arith in
     let bits-more : 8 * suc j ≡ 8 * j + 8 = omega arith in
+    let behind = unpack (replicate j 8) (word % 2 ^ (8 * j)) ++ drop (at + 8) old in
+    let stands = s .bytes ∙ ap (λ (n : ℕ). take (at + n) old ++ behind) now-left in
     record {
       upto = omega arith;
       same = length-set out (at + (k - 1)) (x % 256) ∙ s .same;
       left = rw (then-stored, s .left, bits-more) (shr-shr word (8 * j) 8);
-      bytes = rw (then-stored, s .left) (put-step old out at (k - 1) j word room (omega arith) (s .bytes ∙ ap (λ (n : ℕ). take (at + n) old ++ (unpack (replicate j 8) (word % 2 ^ (8 * j)) ++ drop (at + 8) old)) now-left));
+      bytes = rw (then-stored, s .left) (put-step old out at (k - 1) j word room (omega arith) stands);
     }

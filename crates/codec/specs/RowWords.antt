@@ -19,5 +19,9 @@ unfoldable pub withRow : List ℕ → ℕ → List ℕ → List ℕ
 withRow bytes k row = cond (ltb k (length bytes / rowSize)) (take (rowSize * k) bytes ++ (row ++ drop (rowSize * k + rowSize) bytes)) bytes
 
 -- The two words of a buffer's k-th row, counted from 0; zeros where it has no such row.
+abbrev wordFrom : List ℕ → ℕ → ℕ
+wordFrom bytes at = pack (byteWidths 8) (take 8 (drop at bytes))
+
 unfoldable pub wordsAt : List ℕ → ℕ → RowWords
-wordsAt bytes k = cond (ltb k (length bytes / rowSize)) (record { high = pack (byteWidths 8) (take 8 (drop (rowSize * k) bytes)); low = pack (byteWidths 8) (take 8 (drop (rowSize * k + 8) bytes)) }) (record { high = 0; low = 0 })
+wordsAt bytes k =
+    cond (ltb k (length bytes / rowSize)) (record { high = wordFrom bytes (rowSize * k); low = wordFrom bytes (rowSize * k + 8) }) (record { high = 0; low = 0 })

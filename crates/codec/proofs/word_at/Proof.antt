@@ -50,7 +50,10 @@ loop-again c =
     let l = c .before .before .before in
     let s = l .loop in
     let a = l .before .before .args in
-    (omega arith, word-bound (s .k) (s .x) _ (s .inv .1) (c .wide-byte .ensures .1), word-step (a .s .now) (a .at) (s .k) (s .x) (c .wide-byte .result) (l .before .before .pre) (c .before .before .loop-test .taken) (s .inv .2) (c .wide-byte .ensures .0))
+    let b = c .wide-byte in
+    let bound = word-bound (s .k) (s .x) _ (s .inv .1) (b .ensures .1) in
+    let next = word-step (a .s .now) (a .at) (s .k) (s .x) (b .result) (l .before .before .pre) (c .before .before .loop-test .taken) (s .inv .2) (b .ensures .0) in
+    (omega arith, bound, next)
 
 returns : tie.Need-returns Inv-loop μ-loop
 returns c =
