@@ -64,7 +64,10 @@ module _ {p : Profile} {ts : List Seconds} {i : ℕ} {before : Seconds} {written
 
   -- a job's place
   module _ (v : Valid p) (less : i < p .n) where
-    one-more : PermittedAfter before (jobsFrom p i) (periodsFrom p ts i) ≡ (Allowed (getD (p .jobs) i noJob) before (getD ts i (seconds 0)) × PermittedAfter (getD ts i (seconds 0)) (jobsFrom p (i + 1)) (periodsFrom p ts (i + 1)))
+    one-more :
+        let t = getD ts i (seconds 0) in
+        PermittedAfter before (jobsFrom p i) (periodsFrom p ts i)
+        ≡ (Allowed (getD (p .jobs) i noJob) before t × PermittedAfter t (jobsFrom p (i + 1)) (periodsFrom p ts (i + 1)))
     one-more = ap₂ (PermittedAfter before) (entries-step noJob (p .jobs) i (p .n) less) (entries-step (seconds 0) ts i (p .n) less)
 
     -- where the periods are permitted, its period is allowed
@@ -76,7 +79,10 @@ module _ {p : Profile} {ts : List Seconds} {i : ℕ} {before : Seconds} {written
     along-loss-fits t = eight-losses _ (i + 1) (omega (arith, a .bounded .lost-to, job-loss-bound _ t (job-valid-at p i v less))) (omega (arith, v .n-to))
 
     -- and with an allowed period one goes on to the next
-    pub along-next : Allowed (getD (p .jobs) i noJob) before (getD ts i (seconds 0)) → Along p ts (i + 1) (getD ts i (seconds 0)) (carried written before (getD ts i (seconds 0)) (load (getD (p .jobs) i noJob))) (lost + jobLoss (getD (p .jobs) i noJob) (getD ts i (seconds 0)))
+    pub along-next :
+        let j = getD (p .jobs) i noJob in
+        let t = getD ts i (seconds 0) in
+        Allowed j before t → Along p ts (i + 1) t (carried written before t (load j)) (lost + jobLoss j t)
     unfolding pagesAfter lastOf loss
     along-next allowed =
         let j = getD (p .jobs) i noJob in
@@ -127,8 +133,10 @@ module _ {p : Profile} {ts : List Seconds} {i : ℕ} {before : Seconds} {written
     pub along-need : Valid p → pagesPerHour (needAt written before) ≡ need (jobsOf p) (periodsOf p ts)
     unfolding pagesAfter lastOf needAfter needAt
     along-need v =
+        let all-pages = a .pages ∙ ap₂ (pagesAfter written before) no-job no-period in
+        let all-last = a .last ∙ ap (lastOf before) no-period in
         sym (need-is (jobsOf p) (periodsOf p ts) (v .jobs) along-permitted
-        ∙ ap₂ (λ (w : ℕ) (t : Seconds). pagesPerHour (roundUp (3600 * w) (t .0))) (a .pages ∙ ap₂ (pagesAfter written before) no-job no-period) (a .last ∙ ap (lastOf before) no-period))
+        ∙ ap₂ (λ (w : ℕ) (t : Seconds). pagesPerHour (roundUp (3600 * w) (t .0))) all-pages all-last)
 
     pub along-lost : lost ≡ loss (jobsOf p) (periodsOf p ts)
     unfolding loss

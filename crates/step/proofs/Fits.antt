@@ -24,7 +24,8 @@ module _ {w : ℕ} {fastest : PagesPerHour} {pages : ℕ} {t : Seconds} (h : Los
   pub loss-fits : w * ((fastest .0 - hourly pages t .0) * (fastest .0 - hourly pages t .0)) ≤ mostLoss
   loss-fits = mul-le-mul (h .weight-to) square-fits
 
-pub loss-is : (w : ℕ) (fastest : PagesPerHour) (pages : ℕ) (t : Seconds) → w * ((fastest .0 - hourly pages t .0) * (fastest .0 - hourly pages t .0)) ≡ lossAt w fastest pages t
+pub loss-is : (w : ℕ) (fastest : PagesPerHour) (pages : ℕ) (t : Seconds) →
+    w * ((fastest .0 - hourly pages t .0) * (fastest .0 - hourly pages t .0)) ≡ lossAt w fastest pages t
 unfolding lossAt
 loss-is w fastest pages t = ap (λ (x : ℕ). w * x) (sym (square (fastest .0 - hourly pages t .0)))
 
