@@ -29,7 +29,8 @@ unfolding judgePeriod refuseIf
 allowed-sound j before t k a = simp (allowed-back j before t a)
 
 -- no period is refused: all are permitted
-pub sound-permitted : (k : ℕ) (before : Seconds) (js : List Job) (ts : List Seconds) → length js ≡ length ts → firstUnpermitted k before js ts ≡ Sound → PermittedAfter before js ts
+pub sound-permitted : (k : ℕ) (before : Seconds) (js : List Job) (ts : List Seconds) → length js ≡ length ts →
+    firstUnpermitted k before js ts ≡ Sound → PermittedAfter before js ts
 unfolding firstUnpermitted
 sound-permitted k before [] [] h e = tt
 sound-permitted k before [] (t ∷ ts) h e = absurd (suc-ne-zero (length ts) (sym h))
@@ -68,26 +69,43 @@ record NamesOut (k : ℕ) (before : Seconds) (js : List Job) (ts : List Seconds)
   out : FirstOut before js ts number
   named : v ≡ Periods (k + number)
 
-later-out : {k : ℕ} {before : Seconds} {j : Job} {js : List Job} {t : Seconds} {ts : List Seconds} {v : Verdict} → Allowed j before t → NamesOut (k + 1) t js ts v → NamesOut k before (j ∷ js) (t ∷ ts) v
+later-out : {k : ℕ} {before : Seconds} {j : Job} {js : List Job} {t : Seconds} {ts : List Seconds} {v : Verdict} →
+    Allowed j before t → NamesOut (k + 1) t js ts v → NamesOut k before (j ∷ js) (t ∷ ts) v
 later-out {k} a o =
     let same : k + 1 + o .number ≡ k + (o .number + 1) = omega arith in
     record { number = o .number + 1; out = later a (o .out); named = o .named ∙ ap Periods same }
 
-permitted-or-names : (k : ℕ) (before : Seconds) (js : List Job) (ts : List Seconds) → length js ≡ length ts → PermittedAfter before js ts ⊎ NamesOut k before js ts (firstUnpermitted k before js ts)
+-- the periods are permitted, or the verdict names the first that is out
+abbrev PermittedOrNamed : ℕ → Seconds → List Job → List Seconds → Verdict → Type 0
+PermittedOrNamed k before js ts v = PermittedAfter before js ts ⊎ NamesOut k before js ts v
+
+permitted-or-names : (k : ℕ) (before : Seconds) (js : List Job) (ts : List Seconds) → length js ≡ length ts →
+    PermittedOrNamed k before js ts (firstUnpermitted k before js ts)
 unfolding firstUnpermitted
 permitted-or-names k before [] [] h = inl tt
 permitted-or-names k before [] (t ∷ ts) h = absurd (suc-ne-zero (length ts) (sym h))
 permitted-or-names k before (j ∷ js) [] h = absurd (suc-ne-zero (length js) h)
 permitted-or-names k before (j ∷ js) (t ∷ ts) h = one-of (period-cases j before t (k + 1)) (permitted-or-names (k + 1) t js ts (suc-inj h))
   where
-    one-of : (judgePeriod j before t (k + 1) ≡ Sound) ⊎ (judgePeriod j before t (k + 1) ≡ Periods (k + 1)) → PermittedAfter t js ts ⊎ NamesOut (k + 1) t js ts (firstUnpermitted (k + 1) t js ts) → PermittedAfter before (j ∷ js) (t ∷ ts) ⊎ NamesOut k before (j ∷ js) (t ∷ ts) (orElse (judgePeriod j before t (k + 1)) (firstUnpermitted (k + 1) t js ts))
+    one-of :
+        let this = judgePeriod j before t (k + 1) in
+        let rest = firstUnpermitted (k + 1) t js ts in
+        (this ≡ Sound) ⊎ (this ≡ Periods (k + 1)) → PermittedOrNamed (k + 1) t js ts rest →
+        PermittedOrNamed k before (j ∷ js) (t ∷ ts) (orElse this rest)
     one-of (inl e) (inl rest) = inl (period-allowed j before t (k + 1) e, rest)
-    one-of (inl e) (inr rest) = inr (subst (NamesOut k before (j ∷ js) (t ∷ ts)) (sym (sound-passes {v = judgePeriod j before t (k + 1)} _ refl e)) (later-out (period-allowed j before t (k + 1) e) rest))
+    one-of (inl e) (inr rest) =
+        let passes = sound-passes (firstUnpermitted (k + 1) t js ts) refl e in
+        inr (subst (NamesOut k before (j ∷ js) (t ∷ ts)) (sym passes) (later-out (period-allowed j before t (k + 1) e) rest))
     one-of (inr e) rest = inr (record { number = 1; out = here (refused-not-allowed j before t (k + 1) e); named = refused-names _ e })
 
 -- The periods are permitted, or 13 names the first that is not, those before it being allowed.
-pub permitted-or-first-out : (js : List Job) (ts : List Seconds) → length js ≡ length ts → Permitted js ts ⊎ ((k : ℕ) × FirstOut (seconds 1) js ts k × (firstUnpermitted 0 (seconds 1) js ts ≡ Periods k))
-permitted-or-first-out js ts h = ⊎-elim inl (λ (o : NamesOut 0 (seconds 1) js ts (firstUnpermitted 0 (seconds 1) js ts)). inr (o .number, o .out, o .named ∙ ap Periods (zero-add (o .number)))) (permitted-or-names 0 (seconds 1) js ts h)
+pub permitted-or-first-out : (js : List Job) (ts : List Seconds) → length js ≡ length ts →
+    Permitted js ts ⊎ ((k : ℕ) × FirstOut (seconds 1) js ts k × (firstUnpermitted 0 (seconds 1) js ts ≡ Periods k))
+permitted-or-first-out js ts h =
+    ⊎-elim
+    inl
+    (λ (o : NamesOut 0 (seconds 1) js ts (firstUnpermitted 0 (seconds 1) js ts)). inr (o .number, o .out, o .named ∙ ap Periods (zero-add (o .number))))
+    (permitted-or-names 0 (seconds 1) js ts h)
 
 -- never both, and never two
 pub permitted-none-out : {before : Seconds} (js : List Job) (ts : List Seconds) {k : ℕ} → PermittedAfter before js ts → FirstOut before js ts k → ⊥

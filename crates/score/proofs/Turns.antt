@@ -1,13 +1,12 @@
 -- The turns of the loop over the jobs: what is known before each, and what each way out of it says.
 -- Assumes nothing.
-use mathlib.Core.Path.{_≡_, refl, sym, _∙_, ap, subst}
+use mathlib.Core.Path.{_≡_, sym, _∙_, subst}
 use mathlib.Core.List.{List, _∷_}
-use mathlib.Core.Bool.{Bool, false, cond}
+use mathlib.Core.Bool.{false, true≢false}
 use Prim.Native.Nat.{ℕ, _+_, _≤_, _<_}
 use native.Mathlib.Nat.{sub-zero, zero-add}
 use native.Mathlib.Omega.{arith}
 use lib.ListN.{getD}
-use borrow.Author.Tests.{eqb-false}
 use Rattle.model.specs.declared.Seconds.{Seconds}
 use Rattle.model.specs.declared.Profile.{Profile}
 use Rattle.model.specs.declared.Verdict.the-variants.{Sound, Periods}
@@ -32,18 +31,26 @@ first-jobs p ts = record { along = along-starts p ts; out = λ {m} f. rw (zero-a
 module _ {p : Profile} {ts : List Seconds} {before : Seconds} {written lost k : ℕ} (l : JobsLeft p ts before written lost k) where
   -- the job at hand
   module _ (less : k < p .n) where
-    from-here : {m : ℕ} → FirstOut before (getD (p .jobs) k noJob ∷ jobsFrom p (k + 1)) (getD ts k (seconds 0) ∷ periodsFrom p ts (k + 1)) m → FirstOut (seconds 1) (jobsOf p) (periodsOf p ts) (k + m)
+    from-here : {m : ℕ} →
+        FirstOut before (getD (p .jobs) k noJob ∷ jobsFrom p (k + 1)) (getD ts k (seconds 0) ∷ periodsFrom p ts (k + 1)) m →
+        FirstOut (seconds 1) (jobsOf p) (periodsOf p ts) (k + m)
     from-here f = l .out (rw (entries-step noJob (p .jobs) k (p .n) less, entries-step (seconds 0) ts k (p .n) less) f)
 
     pub period-out : allows (getD (p .jobs) k noJob) before (getD ts k (seconds 0)) ≡ false → Scoring (jobsOf p) (periodsOf p ts) (noScore (Periods (k + 1)))
-    period-out e = first-out (from-here (here (λ a. eqb-false 0 1 refl (ap (λ (t : Bool). cond t 1 0) (sym e ∙ allowed-back _ before _ a)))))
+    period-out e = first-out (from-here (here (λ a. true≢false (sym (allowed-back _ before _ a) ∙ e))))
 
-    pub next-job : Valid p → Allowed (getD (p .jobs) k noJob) before (getD ts k (seconds 0)) → JobsLeft p ts (getD ts k (seconds 0)) (carried written before (getD ts k (seconds 0)) (load (getD (p .jobs) k noJob))) (lost + jobLoss (getD (p .jobs) k noJob) (getD ts k (seconds 0))) (k + 1)
-    next-job v a = record {
-      along = along-next (l .along) v less a;
-      out = λ {m} f. (let same : k + (m + 1) ≡ k + 1 + m = omega arith in subst (FirstOut (seconds 1) (jobsOf p) (periodsOf p ts)) same (from-here (later a f)));
-    }
+    pub next-job : Valid p →
+        let j = getD (p .jobs) k noJob in
+        let t = getD ts k (seconds 0) in
+        Allowed j before t → JobsLeft p ts t (carried written before t (load j)) (lost + jobLoss j t) (k + 1)
+    next-job v a =
+        let same : (m : ℕ) → k + (m + 1) ≡ k + 1 + m = λ m. omega arith in
+        record {
+          along = along-next (l .along) v less a;
+          out = λ {m} f. subst (FirstOut (seconds 1) (jobsOf p) (periodsOf p ts)) (same m) (from-here (later a f));
+        }
 
   -- past the last job
-  pub all-reckoned : Valid p → p .n ≤ k → Scoring (jobsOf p) (periodsOf p ts) (record { verdict = Sound; need = pagesPerHour (needAt written before); loss = lost })
+  pub all-reckoned : Valid p → p .n ≤ k →
+      Scoring (jobsOf p) (periodsOf p ts) (record { verdict = Sound; need = pagesPerHour (needAt written before); loss = lost })
   all-reckoned v past = rw (along-need (l .along) past v, along-lost (l .along) past) (permitted (along-permitted (l .along) past))

@@ -33,9 +33,12 @@ periodHere i = getD (i .before .before .args .t2) (i .before .loop .k) (seconds 
 valid : (i : tie.In-loop Inv-loop μ-loop) → ValidJob (jobHere i)
 valid i = job-valid-at _ (i .before .loop .k) (i .before .before .pre) (i .loop-test .taken)
 
--- a period that did not leave the loop is allowed
-passed : (e : tie.Else1 Inv-loop μ-loop) → Allowed (jobHere (e .before .before .before .before)) (e .before .before .before .before .before .loop .before) (periodHere (e .before .before .before .before))
-passed e = allowed _ (e .before .before .before .before .before .loop .before) _ (sym (e .before .allowed .ensures) ∙ not-false _ (e .if1 .left))
+-- the turn that a period which did not leave the loop belongs to; such a period is allowed
+abbrev turnOf : tie.Else1 Inv-loop μ-loop → tie.In-loop Inv-loop μ-loop
+turnOf e = e .before .before .before .before
+
+passed : (e : tie.Else1 Inv-loop μ-loop) → Allowed (jobHere (turnOf e)) (turnOf e .before .loop .before) (periodHere (turnOf e))
+passed e = allowed _ (turnOf e .before .loop .before) _ (sym (e .before .allowed .ensures) ∙ not-false _ (e .if1 .left))
 
 cast-n : tie.Need-cast-n Inv-loop μ-loop
 cast-n c = search needs
@@ -77,13 +80,13 @@ fastest-rate-requires c κs = valid (c .before .before .before .before)
 written-with-requires : tie.Need-written-with-requires Inv-loop μ-loop
 written-with-requires c κs =
     let e = c .before in
-    let i = e .before .before .before .before in
+    let i = turnOf e in
     (valid i, along-fits (i .before .loop .inv .along), omega (arith, passed e, valid i))
 
 loss-with-requires : tie.Need-loss-with-requires Inv-loop μ-loop
 loss-with-requires c κs =
     let e = c .before .before in
-    let i = e .before .before .before .before in
+    let i = turnOf e in
     (valid i, omega (arith, passed e, valid i), c .before .fastest-rate .ensures)
 
 add-lost : tie.Need-add-lost Inv-loop μ-loop
@@ -100,7 +103,7 @@ loop-less c = search needs
 loop-again : tie.Need-loop-again Inv-loop μ-loop
 loop-again c =
     let e = c .before .before .before in
-    let i = e .before .before .before .before in
+    let i = turnOf e in
     rw (c .before .written-with .ensures, c .loss-with .ensures) (next-job (i .before .loop .inv) (i .loop-test .taken) (i .before .before .pre) (passed e))
 
 need-of-requires : tie.Need-need-of-requires Inv-loop μ-loop
