@@ -29,7 +29,23 @@ job-requires-8 : tie.Need-job-requires-8
 job-requires-8 c κs = search needs
 
 returns : tie.Need-returns
-returns c = simp ((c .before .before .before .before .before .before .before .job .ensures), (c .before .before .before .before .before .before .job2 .ensures), (c .before .before .before .before .before .job3 .ensures), (c .before .before .before .before .job4 .ensures), (c .before .before .before .job5 .ensures), (c .before .before .job6 .ensures), (c .before .job7 .ensures), (c .job8 .ensures))
+returns c =
+    let c7 = c .before in
+    let c6 = c7 .before in
+    let c5 = c6 .before in
+    let c4 = c5 .before in
+    let c3 = c4 .before in
+    let c2 = c3 .before in
+    simp (
+      c2 .before .job .ensures,
+      c2 .job2 .ensures,
+      c3 .job3 .ensures,
+      c4 .job4 .ensures,
+      c5 .job5 .ensures,
+      c6 .job6 .ensures,
+      c7 .job7 .ensures,
+      c .job8 .ensures,
+    )
 
 pub profile-spec : {M : Type 1} → statement M
 profile-spec =

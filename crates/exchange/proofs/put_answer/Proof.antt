@@ -65,7 +65,9 @@ loop-again : tie.Need-loop-again Inv-loop μ-loop
 loop-again c =
     let l = c .before .before .before .loop in
     let ts = c .before .before .before .before .before .args .t3 in
-    run-stored (getD ts (l .k) (seconds 0) .0 ∷ []) (left ts (l .k + 1)) (ap (map (λ (x : Seconds). x .0)) (entries-step (seconds 0) ts (l .k) 8 (omega arith))) (ap (set (l .answer) (2 + l .k)) (c .wide .ensures)) (omega arith) (l .inv)
+    let parts = ap (map (λ (x : Seconds). x .0)) (entries-step (seconds 0) ts (l .k) 8 (omega arith)) in
+    let stored = ap (set (l .answer) (2 + l .k)) (c .wide .ensures) in
+    run-stored (getD ts (l .k) (seconds 0) .0 ∷ []) (left ts (l .k + 1)) parts stored (omega arith) (l .inv)
 
 returns : tie.Need-returns Inv-loop μ-loop
 unfolding answerOf

@@ -57,7 +57,8 @@ unfolding jobsNumbers flatMap
 loop-again c =
     let l = c .before .before .before .before .loop in
     let js = c .before .before .before .before .before .args .t1 .jobs in
-    run-stored (jobNumbers (getD js (l .i) noJob)) (left js (l .i + 1)) (ap jobsNumbers (entries-step noJob js (l .i) 8 (omega arith))) (c .put-job .ensures) (omega arith) (l .inv)
+    let parts = ap jobsNumbers (entries-step noJob js (l .i) 8 (omega arith)) in
+    run-stored (jobNumbers (getD js (l .i) noJob)) (left js (l .i + 1)) parts (c .put-job .ensures) (omega arith) (l .inv)
 
 returns : tie.Need-returns Inv-loop μ-loop
 unfolding numbersOf jobsNumbers flatMap
