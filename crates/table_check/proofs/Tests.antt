@@ -1,27 +1,25 @@
 -- The check of a table as tests that compute: a row is good exactly where its tests hold, and the first for which they do not is the first
 -- bad one. Worked cases are computed with them. Assumes nothing.
-use mathlib.Core.Path.{_≡_, refl, sym, _∙_, ap, subst}
+use mathlib.Core.Path.{_≡_, refl, sym, _∙_, subst}
 use mathlib.Core.List.{List, [], _∷_}
-use mathlib.Core.Bool.{Bool, true, false, cond, _&&_}
+use mathlib.Core.Bool.{Bool, true, false, cond, _&&_, true≢false}
 use mathlib.Core.Logic.{⊎-elim}
 use Prim.Native.Nat.{ℕ, zero, suc, _+_, _-_, _≤_, _<_}
-use native.Mathlib.Nat.{eq-or-lt-of-le, le-of-suc-le-suc, not-suc-le-zero}
+use native.Mathlib.Nat.{eq-or-lt-of-le, not-suc-le-zero}
 use native.Mathlib.Omega.{arith}
 use lib.ListN.{getD}
 use lib.Dec.{eqb, ltb}
-use borrow.Author.Tests.{ltb-true, eqb-true, eqb-false, lt-ltb, eq-eqb}
+use borrow.Author.Tests.{ltb-true, eqb-true, lt-ltb, eq-eqb}
 use Rattle.model.specs.declared.Seconds.{Seconds}
 use Rattle.model.specs.declared.Job.{Job}
 use Rattle.model.specs.declared.Profile.{Profile}
 use Rattle.model.specs.Model.{seconds, jobsOf, periodsOf, PermittedAfter, need}
 use Rattle.model.specs.Testing.{allows}
-use Rattle.model.proofs.Allowing.{both-true, allowed, allowed-back}
+use Rattle.model.proofs.Allowing.{both-true, both-hold, allowed, allowed-back}
 use Rattle.table_row.specs.Table.{rowsIn, startAt, periodsAt, lossAt}
 use Rattle.table_check.specs.Formed.{GoodRow}
 use Rattle.table_check.specs.Checks.{Checked, all-good, first-bad}
-
-both-hold : {a b : Bool} → a ≡ true → b ≡ true → (a && b) ≡ true
-both-hold f g = rw (f, g)
+use Rattle.table_check.proofs.Turns.{below-next}
 
 -- permitted periods
 unfoldable pub permits : Seconds → List Job → List Seconds → Bool
@@ -33,8 +31,8 @@ permits before (j ∷ js) (t ∷ ts) = allows j before t && permits t js ts
 permits-only : (before : Seconds) (js : List Job) (ts : List Seconds) → permits before js ts ≡ true → PermittedAfter before js ts
 unfolding permits
 permits-only before [] [] e = tt
-permits-only before [] (t ∷ ts) e = absurd (eqb-false 0 1 refl (ap (λ (b : Bool). cond b 1 0) e))
-permits-only before (j ∷ js) [] e = absurd (eqb-false 0 1 refl (ap (λ (b : Bool). cond b 1 0) e))
+permits-only before [] (t ∷ ts) e = absurd (true≢false (sym e))
+permits-only before (j ∷ js) [] e = absurd (true≢false (sym e))
 permits-only before (j ∷ js) (t ∷ ts) e =
     let both = both-true (allows j before t) e in
     (allowed j before t (both .0), permits-only t js ts (both .1))
@@ -88,7 +86,8 @@ module _ (p : Profile) (bytes : List ℕ) (few : p .n ≤ 8) where
   after-only (suc k) e j f =
       let both = both-true (ltb (startAt bytes k .0) (startAt bytes (suc k) .0)) e in
       let same : k ≡ j = omega arith in
-      subst (λ (i : ℕ). (startAt bytes i .0 < startAt bytes (suc k) .0) × (lossAt p bytes (suc k) < lossAt p bytes i)) same (ltb-true _ _ (both .0), ltb-true _ _ (both .1))
+      let after : ℕ → Type 0 = λ i. (startAt bytes i .0 < startAt bytes (suc k) .0) × (lossAt p bytes (suc k) < lossAt p bytes i) in
+      subst after same (ltb-true _ _ (both .0), ltb-true _ _ (both .1))
 
   after-all : (k : ℕ) → GoodRow p bytes k → afterGood p bytes k ≡ true
   unfolding afterGood
@@ -120,12 +119,11 @@ module _ (p : Profile) (bytes : List ℕ) (few : p .n ≤ 8) where
   checked-from zero k e good = all-good (λ j less. good j (omega arith))
   checked-from (suc m) k e good = go (rowGood p bytes k) refl (checked-from m (k + 1) (omega arith))
     where
-      upTo : GoodRow p bytes k → (j : ℕ) → j < k + 1 → GoodRow p bytes j
-      upTo g j less = ⊎-elim (λ (same : j ≡ k). subst (GoodRow p bytes) (sym same) g) (λ (h : j < k). good j h) (eq-or-lt-of-le (le-of-suc-le-suc (omega arith)))
-
-      go : (t : Bool) → rowGood p bytes k ≡ t → (((j : ℕ) → j < k + 1 → GoodRow p bytes j) → Checked p bytes (firstBad p bytes (k + 1) m)) → Checked p bytes (cond t (firstBad p bytes (k + 1) m) (k + 1))
-      go true f later = later (upTo (row-only k f))
-      go false f later = first-bad {k = k} (record { there = omega arith; bad = λ g. eqb-false 0 1 refl (ap (λ (b : Bool). cond b 1 0) (sym f ∙ row-all k g)); before = good })
+      go : (t : Bool) → rowGood p bytes k ≡ t →
+          (((j : ℕ) → j < k + 1 → GoodRow p bytes j) → Checked p bytes (firstBad p bytes (k + 1) m)) →
+          Checked p bytes (cond t (firstBad p bytes (k + 1) m) (k + 1))
+      go true f later = later (below-next {P = GoodRow p bytes} (row-only k f) good)
+      go false f later = first-bad {k = k} (record { there = omega arith; bad = λ g. true≢false (sym (row-all k g) ∙ f); before = good })
 
   pub bad-computed : Checked p bytes (firstBad p bytes 0 (rowsIn bytes))
   bad-computed = checked-from (rowsIn bytes) 0 (omega arith) (λ j h. absurd (not-suc-le-zero h))

@@ -3,20 +3,20 @@
 use mathlib.Core.Path.{_≡_, refl, sym, _∙_, ap, ap₂, subst}
 use mathlib.Core.List.{List}
 use mathlib.Core.Logic.{⊎-elim}
-use mathlib.Core.Bool.{Bool, true, false, not, cond, _&&_}
+use mathlib.Core.Bool.{Bool, true, false, not, _&&_, true≢false}
 use Prim.Native.Nat.{ℕ, zero, suc, _+_, _≤_, _<_}
 use native.Mathlib.Nat.{not-suc-le-zero, eq-or-lt-of-le, le-of-suc-le-suc}
 use native.Mathlib.Omega.{arith}
 use lib.ListN.{getD}
 use lib.Dec.{ltb}
-use borrow.Author.Tests.{not-true, not-false, ltb-true, lt-ltb, ne-eqb, eqb-false}
+use borrow.Author.Tests.{not-true, not-false, ltb-true, lt-ltb, ne-eqb}
 use Rattle.model.specs.declared.Seconds.{Seconds}
 use Rattle.model.specs.declared.PagesPerHour.{PagesPerHour}
 use Rattle.model.specs.declared.Profile.{Profile}
 use Rattle.model.specs.Model.{seconds, pagesPerHour, noJob, jobsOf, periodsOf, load, Permitted, need, jobLoss, loss}
 use Rattle.model.specs.Testing.{allows}
 use Rattle.model.specs.Valid.{Valid}
-use Rattle.model.proofs.Allowing.{both-true, allowed, allowed-back}
+use Rattle.model.proofs.Allowing.{both-true, both-hold, allowed, allowed-back}
 use Rattle.step.specs.Step.{carried, needAt}
 use Rattle.step.proofs.Along.{Along, along-starts, along-allows, along-next, along-beyond, along-permitted, along-need, along-lost}
 use Rattle.table_row.specs.declared.TableRow.{TableRow}
@@ -33,7 +33,17 @@ pub record RowsLeft (p : Profile) (bytes : List ℕ) (start : PagesPerHour) (los
   pub loss-is : (j : ℕ) → k ≡ j + 1 → loss ≡ lossAt p bytes j
 
 pub first-rows : (p : Profile) (bytes : List ℕ) (start : PagesPerHour) (loss : ℕ) → RowsLeft p bytes start loss 0
-first-rows p bytes start loss = record { upto = omega arith; good = λ j h. absurd (not-suc-le-zero h); start-is = λ j e. absurd (omega arith); loss-is = λ j e. absurd (omega arith) }
+first-rows p bytes start loss = record {
+  upto = omega arith;
+  good = λ j h. absurd (not-suc-le-zero h);
+  start-is = λ j e. absurd (omega arith);
+  loss-is = λ j e. absurd (omega arith);
+}
+
+-- what holds below k and at k holds below k + 1
+pub below-next : {P : ℕ → Type 0} {k : ℕ} → P k → ((j : ℕ) → j < k → P j) → (j : ℕ) → j < k + 1 → P j
+below-next {P} {k} here below j h =
+    ⊎-elim (λ (same : j ≡ k). subst P (sym same) here) (λ (less : j < k). below j less) (eq-or-lt-of-le (le-of-suc-le-suc (omega arith)))
 
 -- before a turn of the loop over a row's periods: what the jobs before the i-th place have written and lost is carried along, and
 -- the places before it that are beyond the jobs hold zeros
@@ -47,16 +57,20 @@ first-places p ts = record { along = along-starts p ts; zeros = λ j past h. abs
 -- a job's place
 module _ {p : Profile} {ts : List Seconds} {before : Seconds} {written lost i : ℕ} (v : Valid p) (l : PlacesLeft p ts before written lost i) (less : i < p .n) where
   pub place-off : allows (getD (p .jobs) i noJob) before (getD ts i (seconds 0)) ≡ false → Permitted (jobsOf p) (periodsOf p ts) → ⊥
-  place-off e h = eqb-false 0 1 refl (ap (λ (t : Bool). cond t 1 0) (sym e ∙ allowed-back _ before _ (along-allows (l .along) v less h)))
+  place-off e h = true≢false (sym (allowed-back _ before _ (along-allows (l .along) v less h)) ∙ e)
 
-  pub next-place : allows (getD (p .jobs) i noJob) before (getD ts i (seconds 0)) ≡ true → PlacesLeft p ts (getD ts i (seconds 0)) (carried written before (getD ts i (seconds 0)) (load (getD (p .jobs) i noJob))) (lost + jobLoss (getD (p .jobs) i noJob) (getD ts i (seconds 0))) (i + 1)
+  pub next-place :
+      let j = getD (p .jobs) i noJob in
+      let t = getD ts i (seconds 0) in
+      allows j before t ≡ true → PlacesLeft p ts t (carried written before t (load j)) (lost + jobLoss j t) (i + 1)
   next-place e = record { along = along-next (l .along) v less (allowed _ before _ e); zeros = λ k past h. absurd (omega arith) }
 
 -- a place beyond the jobs
-pub next-zero : {p : Profile} {ts : List Seconds} {before : Seconds} {written lost i : ℕ} → PlacesLeft p ts before written lost i → p .n ≤ i → i < 8 → getD ts i (seconds 0) .0 ≡ 0 → PlacesLeft p ts before written lost (i + 1)
-next-zero {ts = ts} {i = i} l past less e = record {
+pub next-zero : {p : Profile} {ts : List Seconds} {before : Seconds} {written lost i : ℕ} → PlacesLeft p ts before written lost i →
+    p .n ≤ i → i < 8 → getD ts i (seconds 0) .0 ≡ 0 → PlacesLeft p ts before written lost (i + 1)
+next-zero {p} {ts} l past less e = record {
   along = along-beyond (l .along) past less;
-  zeros = λ j beyond h. ⊎-elim (λ (same : j ≡ i). ap (λ (k : ℕ). getD ts k (seconds 0) .0) same ∙ e) (λ (h′ : j < i). l .zeros j beyond h′) (eq-or-lt-of-le (le-of-suc-le-suc (omega arith)));
+  zeros = λ j beyond h. below-next {P = λ (m : ℕ). p .n ≤ m → getD ts m (seconds 0) .0 ≡ 0} (λ b. e) (λ m to b. l .zeros m b to) j h beyond;
 }
 
 -- what is known of row k once its places are found right
@@ -67,7 +81,9 @@ pub record Scanned (p : Profile) (bytes : List ℕ) (k : ℕ) (row : TableRow) (
   pub need-is : needs ≡ need (jobsOf p) (periodsOf p (periodsAt bytes k))
   pub loss-is : lost ≡ lossAt p bytes k
 
-pub scanned-row : {p : Profile} {bytes : List ℕ} {k : ℕ} {row : TableRow} {before : Seconds} {written lost i : ℕ} → Valid p → row ≡ rowAt bytes k → PlacesLeft p (row .periods) before written lost i → 8 ≤ i → Scanned p bytes k row (pagesPerHour (needAt written before)) lost
+pub scanned-row : {p : Profile} {bytes : List ℕ} {k : ℕ} {row : TableRow} {before : Seconds} {written lost i : ℕ} → Valid p →
+    row ≡ rowAt bytes k → PlacesLeft p (row .periods) before written lost i → 8 ≤ i →
+    Scanned p bytes k row (pagesPerHour (needAt written before)) lost
 scanned-row {p} {bytes} {k} {row} {i} v e l all =
     let past : p .n ≤ i = omega (arith, v .n-to) in
     let same = ap (λ (x : TableRow). x .periods) e in
@@ -87,9 +103,6 @@ after-one j s t l m = rw (ne-eqb (j + 1) 0 (omega arith))
 after-none : (s t : PagesPerHour) (l m : ℕ) → follows 0 s l t m ≡ true
 unfolding follows
 after-none s t l m = refl
-
-both-hold : {a b : Bool} → a ≡ true → b ≡ true → (a && b) ≡ true
-both-hold f g = rw (f, g)
 
 -- what the row at hand does to the answer
 module _ {p : Profile} {bytes : List ℕ} {before : PagesPerHour} {lossBefore k : ℕ} (left : RowsLeft p bytes before lossBefore k) where
@@ -112,7 +125,8 @@ module _ {p : Profile} {bytes : List ℕ} {before : PagesPerHour} {lossBefore k 
       start-fails ne = named (λ g. ne (ap (λ (x : PagesPerHour). x .0) (s .need-is) ∙ g .start ∙ sym (ap (λ (x : PagesPerHour). x .0) (s .start-is))))
 
       -- the rule of the row before, with that row's numbers in hand
-      known : (j : ℕ) → k ≡ j + 1 → follows k before lossBefore (row .start) lost ≡ (ltb (startAt bytes j .0) (startAt bytes k .0) && ltb (lossAt p bytes k) (lossAt p bytes j))
+      known : (j : ℕ) → k ≡ j + 1 → follows k before lossBefore (row .start) lost
+          ≡ (ltb (startAt bytes j .0) (startAt bytes k .0) && ltb (lossAt p bytes k) (lossAt p bytes j))
       known j e =
           ap₂ (λ (x : PagesPerHour) (m : ℕ). follows k before lossBefore x m) (s .start-is) (s .loss-is)
           ∙ ap₂ (λ (x : PagesPerHour) (m : ℕ). follows k x m (startAt bytes k) (lossAt p bytes k)) (left .start-is j e) (left .loss-is j e)
@@ -126,12 +140,13 @@ module _ {p : Profile} {bytes : List ℕ} {before : PagesPerHour} {lossBefore k 
           known j f ∙ both-hold (lt-ltb _ _ (g .start-rises j f)) (lt-ltb _ _ (g .loss-falls j f))
 
       pub order-fails : {t : Bool} → t ≡ follows k before lossBefore (row .start) lost → not t ≡ true → Checked p bytes (k + 1)
-      order-fails d f = named (λ g. eqb-false 0 1 refl (ap (λ (t : Bool). cond t 1 0) (sym (not-true _ f) ∙ d ∙ good-after g k refl)))
+      order-fails d f = named (λ g. true≢false (sym (good-after g k refl) ∙ sym d ∙ not-true _ f))
 
-      pub next-row : {t : Bool} → needs .0 ≡ row .start .0 → t ≡ follows k before lossBefore (row .start) lost → not t ≡ false → RowsLeft p bytes (row .start) lost (k + 1)
+      pub next-row : {t : Bool} → needs .0 ≡ row .start .0 → t ≡ follows k before lossBefore (row .start) lost → not t ≡ false →
+          RowsLeft p bytes (row .start) lost (k + 1)
       next-row e d f = record {
         upto = omega arith;
-        good = λ j h. ⊎-elim (λ (same : j ≡ k). subst (GoodRow p bytes) (sym same) good) (λ (h′ : j < k). left .good j h′) (eq-or-lt-of-le (le-of-suc-le-suc (omega arith)));
+        good = below-next {P = GoodRow p bytes} good (left .good);
         start-is = λ j g. (let same : k ≡ j = omega arith in s .start-is ∙ ap (startAt bytes) same);
         loss-is = λ j g. (let same : k ≡ j = omega arith in s .loss-is ∙ ap (lossAt p bytes) same);
       }

@@ -15,7 +15,8 @@ use Rattle.model.specs.Valid.{Valid}
 use Rattle.model.proofs.Validity.{job-valid-at}
 use Rattle.model.proofs.Allowing.{allowed}
 use Rattle.step.proofs.Along.{along-fits, along-loss-fits}
-use Rattle.table_check.proofs.Turns.{RowsLeft, PlacesLeft, Scanned, first-rows, first-places, place-off, next-place, next-zero, scanned-row, no-more, place-fails, zero-fails, start-fails, order-fails, next-row}
+use Rattle.table_check.proofs.Turns.{RowsLeft, PlacesLeft, Scanned, first-rows, first-places, place-off, next-place, next-zero, scanned-row}
+use Rattle.table_check.proofs.Turns.{no-more, place-fails, zero-fails, start-fails, order-fails, next-row}
 use Rattle.table_check.proofs.first_bad_row.Statement.{statement}
 use Rattle.table_check.proofs.first_bad_row.Tie as tie
 
@@ -42,11 +43,17 @@ abbrev periodHere : tie.In-loop Inv-loop μ-loop Inv-rows μ-rows → Seconds
 periodHere c = getD (c .before .before .before .before .row-at .result .periods) (c .before .loop .i) (seconds 0)
 
 -- a period that did not leave the loops is allowed
-passed : (c : tie.Else4 Inv-loop μ-loop Inv-rows μ-rows) → allows (jobHere (c .before .before .before .before .before)) (c .before .before .before .before .before .before .loop .before) (periodHere (c .before .before .before .before .before)) ≡ true
+passed : (c : tie.Else4 Inv-loop μ-loop Inv-rows μ-rows) →
+    let i = c .before .before .before .before .before in
+    allows (jobHere i) (i .before .loop .before) (periodHere i) ≡ true
 passed c = sym (c .before .allowed .ensures) ∙ not-false _ (c .if4 .left)
 
 -- past the loop over a row's periods its need and its loss are known
-scanned : (c : tie.After-need-of Inv-loop μ-loop Inv-rows μ-rows) → Scanned (c .before .before .before .before .before .before .before .before .before .before .args .t1) (c .before .before .before .before .before .before .before .before .before .before .args .table .now) (c .before .before .before .before .before .before .before .rows .k) (c .before .before .before .before .before .row-at .result) (c .need-of .result) (c .before .before .loop .lost)
+scanned : (c : tie.After-need-of Inv-loop μ-loop Inv-rows μ-rows) →
+    let row = c .before .before .before .before .before in
+    let turn = row .before .before in
+    let start = turn .before .before .before in
+    Scanned (start .args .t1) (start .args .table .now) (turn .rows .k) (row .row-at .result) (c .need-of .result) (c .before .before .loop .lost)
 scanned c =
     let l = c .before .before in
     rw (c .need-of .ensures) (scanned-row (valid l) (l .before .before .before .row-at .ensures) (l .loop .inv) (c .before .loop-test .left))
@@ -117,7 +124,11 @@ loss-with-requires : tie.Need-loss-with-requires Inv-loop μ-loop Inv-rows μ-ro
 loss-with-requires c κs =
     let e = c .before .before .before .before in
     let l = e .before .before .before in
-    (job-valid-at _ (l .loop .i) (valid l) (e .if2 .left), allowed _ (l .loop .before) _ (passed (c .before)) .above, ap pagesPerHour (l .before .before .before .before .before .before .rates-of .ensures .front (l .loop .i) zero-le (e .if2 .left)))
+    let fastest = l .before .before .before .before .before .before .rates-of .ensures .front (l .loop .i) zero-le (e .if2 .left) in (
+      job-valid-at _ (l .loop .i) (valid l) (e .if2 .left),
+      allowed _ (l .loop .before) _ (passed (c .before)) .above,
+      ap pagesPerHour fastest,
+    )
 
 add-lost : tie.Need-add-lost Inv-loop μ-loop Inv-rows μ-rows
 add-lost c =
@@ -179,7 +190,8 @@ returns-3 c =
     let e = c .before .before .before in
     let l = e .before .before .before in
     let r = l .before .before .before in
-    place-fails (r .before .before .rows .inv) (r .before .if1 .left) (r .row-at .ensures) (place-off (valid l) (l .loop .inv) (e .if2 .left) (sym (c .before .allowed .ensures) ∙ not-true _ (c .if4 .taken)))
+    let off = place-off (valid l) (l .loop .inv) (e .if2 .left) (sym (c .before .allowed .ensures) ∙ not-true _ (c .if4 .taken)) in
+    place-fails (r .before .before .rows .inv) (r .before .if1 .left) (r .row-at .ensures) off
 
 returns-4 : tie.Need-returns-4 Inv-loop μ-loop Inv-rows μ-rows
 returns-4 c =
