@@ -32,8 +32,11 @@ fewest-digits (suc most) (suc (suc r)) n h to =
     let one-less : suc (suc r) - 1 ≡ suc r = omega arith in
     let big : 10 ^ suc r ≤ n = rw one-less at (h .2 (omega arith)) in
     let least : 10 ≤ n = omega (arith, ten-to r) in
-    let fewer : Fewest 10 1 (n / 10) (suc r) = (omega arith, omega (arith, h .1, pow-succ' 10 (suc r)), λ _. simp unary-clauses (omega (arith, pow-succ' 10 r))) in
-    rw (le-ltb n 10 least) (ap₂ (λ (ds : List ℕ) (d : ℕ). ds ++ (d ∷ [])) (fewest-digits most (suc r) (n / 10) fewer (omega arith)) (glyph-is (n % 10) (mod-lt n (omega arith))))
+    let fewer : Fewest 10 1 (n / 10) (suc r) =
+    (omega arith, omega (arith, h .1, pow-succ' 10 (suc r)), λ _. simp unary-clauses (omega (arith, pow-succ' 10 r))) in
+    let front = fewest-digits most (suc r) (n / 10) fewer (omega arith) in
+    let last = glyph-is (n % 10) (mod-lt n (omega arith)) in
+    rw (le-ltb n 10 least) (ap₂ (λ (ds : List ℕ) (d : ℕ). ds ++ (d ∷ [])) front last)
 
 twenty : (r n : ℕ) → Fewest 10 1 n r → n < 10 ^ 20 → r ≤ 20
 twenty r n h small = go (decLe r 20)
@@ -53,7 +56,9 @@ unfolding digitsOf
 digits-few zero k n h = omega arith
 digits-few (suc most) k n h = go (ltb n 10) refl k h (λ j. digits-few most j (n / 10))
   where
-    go : (t : Bool) → ltb n 10 ≡ t → (j : ℕ) → n < 10 ^ suc j → ((i : ℕ) → n / 10 < 10 ^ suc i → length (digitsOf most (n / 10)) ≤ suc i) → length (cond t ((48 + n) ∷ []) (digitsOf most (n / 10) ++ ((48 + n % 10) ∷ []))) ≤ suc j
+    go : (t : Bool) → ltb n 10 ≡ t → (j : ℕ) → n < 10 ^ suc j →
+        ((i : ℕ) → n / 10 < 10 ^ suc i → length (digitsOf most (n / 10)) ≤ suc i) →
+        length (cond t ((48 + n) ∷ []) (digitsOf most (n / 10) ++ ((48 + n % 10) ∷ []))) ≤ suc j
     go true e j less fewer = omega arith
     go false e zero less fewer = absurd (omega (arith, ltb-false n 10 e))
     go false e (suc j) less fewer = omega (arith, length-append (digitsOf most (n / 10)) ((48 + n % 10) ∷ []), fewer j (omega (arith, pow-succ' 10 (suc j))))

@@ -23,7 +23,8 @@ spaced-snoc [] t = append-nil (spaced (t .0))
 spaced-snoc (x ∷ ts) t = ap (λ (l : List ℕ). spaced (x .0) ++ l) (spaced-snoc ts t) ∙ sym (append-assoc (spaced (x .0)) (spacedPeriods ts) (spaced (t .0)))
 
 -- one period more
-next-period : (periods : List Seconds) (k : ℕ) → spacedPeriods (entries (seconds 0) periods 0 k) ++ spaced (getD periods k (seconds 0) .0) ≡ spacedPeriods (entries (seconds 0) periods 0 (k + 1))
+next-period : (periods : List Seconds) (k : ℕ) →
+    spacedPeriods (entries (seconds 0) periods 0 k) ++ spaced (getD periods k (seconds 0) .0) ≡ spacedPeriods (entries (seconds 0) periods 0 (k + 1))
 next-period periods k =
     let from-0 : 0 + k ≡ k = zero-add k in
     sym (rw (add-one k, entries-snoc (seconds 0) periods 0 k, from-0) (spaced-snoc (entries (seconds 0) periods 0 k) (getD periods k (seconds 0))))
@@ -39,7 +40,9 @@ module _ (old : List ℕ) (at : ℕ) (periods : List Seconds) (n : ℕ) where
   unfolding spacedPeriods entries
   no-period h = record { upto = omega arith; puts = record { place = sym (add-zero at); room = h; text = refl }; within = omega arith }
 
-  pub one-period : {k end next : ℕ} {text new : List ℕ} → k < n → getD periods k (seconds 0) .0 ≤ 3600 → PeriodsPut old at periods n k end text → Puts text end (spaced (getD periods k (seconds 0) .0)) next new → PeriodsPut old at periods n (k + 1) next new
+  pub one-period : {k end next : ℕ} {text new : List ℕ} → k < n →
+      let t = getD periods k (seconds 0) in
+      t .0 ≤ 3600 → PeriodsPut old at periods n k end text → Puts text end (spaced (t .0)) next new → PeriodsPut old at periods n (k + 1) next new
   one-period {k} {end} {next} {text} {new} h small i p =
       record {
         upto = omega arith;

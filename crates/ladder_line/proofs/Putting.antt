@@ -1,19 +1,14 @@
 -- Bytes put one after the other are put together. Assumes nothing.
 use mathlib.Core.Path.{_≡_, refl, sym, _∙_, ap, ap₂}
 use mathlib.Core.List.{List, [], _∷_, _++_}
-use Prim.Native.Nat.{ℕ, suc, _+_, _≤_, _<_}
-use native.Mathlib.Nat.{zero-add, add-zero}
+use Prim.Native.Nat.{ℕ, _+_, _≤_, _<_}
+use native.Mathlib.Nat.{zero-add}
 use native.Mathlib.Numerals.{add-one}
 use native.Mathlib.Omega.{arith}
 use lib.ListN.{length, getD, take, drop, set, length-append}
 use lib.Seq.{sets, sets-eq, length-sets, take-suc, length-take-le}
+use Rattle.model.proofs.Lists.{sets-append}
 use Rattle.ladder_line.specs.Writing.{Puts}
-
-sets-append : (l : List ℕ) (i : ℕ) (w v : List ℕ) → sets (sets l i w) (i + length w) v ≡ sets l i (w ++ v)
-sets-append l i [] v = ap (λ (k : ℕ). sets l k v) (add-zero i)
-sets-append l i (a ∷ w) v =
-    let e : i + suc (length w) ≡ suc i + length w = omega arith in
-    ap (λ (k : ℕ). sets (sets (set l i a) (suc i) w) k v) e ∙ sets-append (set l i a) (suc i) w v
 
 pub put-none : (text : List ℕ) → Puts text 0 [] 0 text
 put-none text = record { place = refl; room = omega arith; text = refl }
@@ -33,7 +28,8 @@ pub put-room : {old new : List ℕ} {at r : ℕ} {w : List ℕ} → Puts old at 
 put-room {old} {new} {at} {r} {w} p = omega (arith, p .room, ap length (p .text) ∙ length-sets old at w)
 
 -- one byte more of some bytes
-pub put-one : (old : List ℕ) (at : ℕ) (bytes : List ℕ) (k : ℕ) {text : List ℕ} → k < length bytes → text ≡ sets old at (take k bytes) → set text (at + k) (getD bytes k 0) ≡ sets old at (take (k + 1) bytes)
+pub put-one : (old : List ℕ) (at : ℕ) (bytes : List ℕ) (k : ℕ) {text : List ℕ} → k < length bytes →
+    text ≡ sets old at (take k bytes) → set text (at + k) (getD bytes k 0) ≡ sets old at (take (k + 1) bytes)
 put-one old at bytes k h e =
     let size : length (take k bytes) ≡ k = length-take-le k bytes (omega arith) in
     ap₂ (λ (l : List ℕ) (n : ℕ). set l (at + n) (getD bytes k 0)) e (sym size)

@@ -17,7 +17,9 @@ abbrev μ-loop : tie.MeasureT-loop
 μ-loop at bytes out₀ k₀ out k = length bytes - k
 
 size : (c : tie.At-loop Inv-loop μ-loop) → length (c .loop .out) ≡ 80
-size c = ap length (c .loop .inv .1) ∙ length-sets (c .before .before .args .text .now) (c .before .before .args .at) (take (c .loop .k) (c .before .before .args .bytes .now)) ∙ c .before .out .given .0 .1
+size c =
+    let a = c .before .before .args in
+    ap length (c .loop .inv .1) ∙ length-sets (a .text .now) (a .at) (take (c .loop .k) (a .bytes .now)) ∙ c .before .out .given .0 .1
 
 loop-holds : tie.Need-loop-holds Inv-loop μ-loop
 loop-holds c = (omega arith, refl)

@@ -32,9 +32,11 @@ cast-put-spaced c = search needs
 
 put-spaced-requires : tie.Need-put-spaced-requires Inv-loop μ-loop
 put-spaced-requires c κs =
-    let l = c .before .before .before .before .loop in
-    let s = c .before .before .before .before .before in
-    omega (arith, l .inv .within, s .pre .1, c .before .before .before .loop-test .taken, period-few (getD (s .args .t3) (l .i) (seconds 0)) (s .pre .0 .each (l .i) (c .before .before .before .loop-test .taken)))
+    let i = c .before .before .before in
+    let l = i .before .loop in
+    let s = i .before .before in
+    let few = period-few (getD (s .args .t3) (l .i) (seconds 0)) (s .pre .0 .each (l .i) (i .loop-test .taken)) in
+    omega (arith, l .inv .within, s .pre .1, i .loop-test .taken, few)
 
 add-i : tie.Need-add-i Inv-loop μ-loop
 add-i c = search needs
@@ -53,7 +55,8 @@ returns c =
     let l = c .before .loop in
     let a = c .before .before .args in
     let done : l .i ≡ a .n = omega (arith, l .inv .upto, c .loop-test .left) in
-    (subst (λ (k : ℕ). Puts (a .text .now) (a .at) (spacedPeriods (entries (seconds 0) (a .t3) 0 k)) (l .end) (l .text)) done (l .inv .puts), omega (arith, l .inv .within))
+    let puts : ℕ → Type 0 = λ k. Puts (a .text .now) (a .at) (spacedPeriods (entries (seconds 0) (a .t3) 0 k)) (l .end) (l .text) in
+    (subst puts done (l .inv .puts), omega (arith, l .inv .within))
 
 pub put-periods-spec : {M : Type 1} → statement M
 put-periods-spec =
