@@ -2,10 +2,12 @@
 -- Assumes nothing.
 use borrow.Author.Tests.{lt-ltb, le-ltb, eq-eqb, ne-eqb}
 use mathlib.Core.Path.{_≡_, _∙_, sym}
-use mathlib.Core.Bool.{true, false}
+use mathlib.Core.Bool.{true, false, not}
 use lib.ListN.{length}
 use lib.Dec.{eqb}
+use Rattle.model.specs.declared.Verdict.the-variants.{Sound, Length}
 use Rattle.model.specs.Model.{refuseIf}
+use Rattle.codec.specs.Layout.{profileLength}
 use Rattle.profile_read.specs.Reading.{judgeHeader}
 use Rattle.profile_read.specs.Fields.{editionOf}
 use Rattle.profile_read.proofs.Records.{edition-is}
@@ -44,7 +46,10 @@ returns-3 c = simp (some (c .before .before .before .before), edition-right (c .
 
 returns-4 : tie.Need-returns-4
 unfolding judgeHeader refuseIf
-returns-4 c = simp (some (c .before .before .before .before .before), edition-right (c .before .before .before), ← (c .before .before .job-count .ensures .0), ne-eqb _ _ (c .before .if3 .left), lt-ltb _ _ (c .if4 .taken))
+returns-4 c =
+    let n = c .before .before in
+    let e = n .before in
+    simp (some (e .before .before), edition-right e, ← (n .job-count .ensures .0), ne-eqb _ _ (c .before .if3 .left), lt-ltb _ _ (c .if4 .taken))
 
 mul-if5 : tie.Need-mul-if5
 mul-if5 c = search needs
@@ -52,13 +57,24 @@ mul-if5 c = search needs
 add-if5 : tie.Need-add-if5
 add-if5 c = search needs
 
-returns-5 : tie.Need-returns-5
+-- past the tests of the edition and of the number of jobs the length decides
+by-length : (c : tie.Else4) →
+    let n = c .before .before in
+    let bytes = n .before .before .before .before .before .args .bytes .now in
+    judgeHeader bytes ≡ refuseIf (not (eqb (length bytes) (profileLength (n .job-count .result)))) Length Sound
 unfolding judgeHeader refuseIf
-returns-5 c = simp (some (c .before .before .before .before .before .before), edition-right (c .before .before .before .before), ← (c .before .before .before .job-count .ensures .0), ne-eqb _ _ (c .before .before .if3 .left), le-ltb _ _ (c .before .if4 .left), ne-eqb _ _ (c .if5 .taken))
+by-length c =
+    let n = c .before .before in
+    let e = n .before in
+    simp (some (e .before .before), edition-right e, ← (n .job-count .ensures .0), ne-eqb _ _ (c .before .if3 .left), le-ltb _ _ (c .if4 .left))
+
+returns-5 : tie.Need-returns-5
+unfolding refuseIf
+returns-5 c = simp (by-length (c .before), ne-eqb _ _ (c .if5 .taken))
 
 returns-6 : tie.Need-returns-6
-unfolding judgeHeader refuseIf
-returns-6 c = simp (some (c .before .before .before .before .before .before), edition-right (c .before .before .before .before), ← (c .before .before .before .job-count .ensures .0), ne-eqb _ _ (c .before .before .if3 .left), le-ltb _ _ (c .before .if4 .left), eq-eqb _ _ (c .if5 .left))
+unfolding refuseIf
+returns-6 c = simp (by-length (c .before), eq-eqb _ _ (c .if5 .left))
 
 pub judge-header-spec : {M : Type 1} → statement M
 judge-header-spec =

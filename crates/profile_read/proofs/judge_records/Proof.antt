@@ -1,6 +1,6 @@
 -- `profile_read::judge_records` meets its contract: before each turn the verdict is that of the records from the k-th on.
 -- Assumes nothing.
-use Prim.Native.Nat.{ℕ, _+_, _*_, _-_, _≤_}
+use Prim.Native.Nat.{ℕ, _+_, _-_, _≤_}
 use mathlib.Core.Path.{_≡_, _∙_, sym, ap}
 use native.Mathlib.Nat.{sub-zero}
 use lib.ListN.{drop}
@@ -11,29 +11,35 @@ use Rattle.model.proofs.Verdicts.{sound-passes, refused-stays}
 use Rattle.profile_read.specs.declared.Record.{Record}
 use Rattle.profile_read.specs.Reading.{recordsIn, judgeRecord}
 use Rattle.profile_read.specs.Fields.{recordOf, fieldsAt, judgeCut}
-use Rattle.profile_read.proofs.Records.{one-judged, all-judged}
+use Rattle.profile_read.proofs.Records.{judgedFrom, one-judged, all-judged}
 use native.Mathlib.Omega.{arith}
 use borrow.Author.Needs.{needs}
 use Rattle.profile_read.proofs.judge_records.Statement.{statement}
 use Rattle.profile_read.proofs.judge_records.Tie as tie
 
 abbrev Inv-loop : tie.InvT-loop
-Inv-loop bytes n k₀ k = (k ≤ n) × (firstRefused judgeRecord 0 (recordsIn n (drop 1 bytes)) ≡ firstRefused judgeRecord k (recordsIn (n - k) (drop (1 + 8 * k) bytes)))
+Inv-loop bytes n k₀ k = (k ≤ n) × (firstRefused judgeRecord 0 (recordsIn n (drop 1 bytes)) ≡ judgedFrom bytes k n)
 
 abbrev μ-loop : tie.MeasureT-loop
 μ-loop bytes n k₀ k = n - k
 
 -- the verdict on the k-th record
-told : (c : tie.After-judge-record Inv-loop μ-loop) → c .judge-record .result ≡ judgeCut (recordOf (fieldsAt (c .before .before .before .before .before .args .bytes .now) (c .before .before .before .loop .k))) (c .before .before .before .loop .k + 1)
+told : (c : tie.After-judge-record Inv-loop μ-loop) →
+    let l = c .before .before .before in
+    c .judge-record .result ≡ judgeCut (recordOf (fieldsAt (l .before .before .args .bytes .now) (l .loop .k))) (l .loop .k + 1)
 told c = c .judge-record .ensures ∙ ap (λ (r : Record). judgeCut r (c .before .before .before .loop .k + 1)) (c .before .record-at .ensures)
 
 -- what the k-th record decides, and what is left to those after it
 Later : List ℕ → ℕ → ℕ → Verdict
-Later bytes n k = orElse (judgeCut (recordOf (fieldsAt bytes k)) (k + 1)) (firstRefused judgeRecord (k + 1) (recordsIn (n - (k + 1)) (drop (1 + 8 * (k + 1)) bytes)))
+Later bytes n k = orElse (judgeCut (recordOf (fieldsAt bytes k)) (k + 1)) (judgedFrom bytes (k + 1) n)
 
-turn : (c : tie.In-loop Inv-loop μ-loop) → firstRefused judgeRecord 0 (recordsIn (c .before .before .before .args .n) (drop 1 (c .before .before .before .args .bytes .now))) ≡ Later (c .before .before .before .args .bytes .now) (c .before .before .before .args .n) (c .before .loop .k)
+turn : (c : tie.In-loop Inv-loop μ-loop) →
+    let a = c .before .before .before .args in
+    firstRefused judgeRecord 0 (recordsIn (a .n) (drop 1 (a .bytes .now))) ≡ Later (a .bytes .now) (a .n) (c .before .loop .k)
 unfolding Later
-turn c = c .before .loop .inv .1 ∙ one-judged (c .before .before .before .args .bytes .now) (c .before .loop .k) (c .before .before .before .args .n) (c .loop-test .taken)
+turn c =
+    let a = c .before .before .before .args in
+    c .before .loop .inv .1 ∙ one-judged (a .bytes .now) (c .before .loop .k) (a .n) (c .loop-test .taken)
 
 loop-holds : tie.Need-loop-holds Inv-loop μ-loop
 loop-holds c = (omega arith, rw (sub-zero (c .before .args .n)))

@@ -25,7 +25,8 @@ handed-on bytes v p h e z = record { verdict = e; profile = z ∙ beside-refusal
 header : (c : tie.After-enum-told) → SoundHeader (c .before .before .before .before .args .bytes .now)
 header c = sound-header _ (sym (c .before .before .judge-header .ensures) ∙ c .enum-told .given .1)
 
-size : (c : tie.After-job-count) → (c .job-count .result ≤ 8) × (profileLength (c .job-count .result) ≤ length (c .before .before .before .before .before .args .bytes .now))
+size : (c : tie.After-job-count) →
+    (c .job-count .result ≤ 8) × (profileLength (c .job-count .result) ≤ length (c .before .before .before .before .before .args .bytes .now))
 size c = omega (arith, header (c .before), c .job-count .ensures .0)
 
 -- and the records decide
@@ -79,7 +80,8 @@ returns-3 c =
     let s = c .before .before .before in
     let v = sym (c .before .enum-told2 .given .1) ∙ decided s in
     let count = s .before .job-count .ensures .0 in
-    record { verdict = decided s; profile = c .values .ensures ∙ ap (profileOf (s .before .before .before .before .before .before .args .bytes .now)) count ∙ beside-sound _ _ v }
+    let bytes = s .before .before .before .before .before .before .args .bytes .now in
+    record { verdict = decided s; profile = c .values .ensures ∙ ap (profileOf bytes) count ∙ beside-sound _ _ v }
 
 pub read-profile-spec : {M : Type 1} → statement M
 read-profile-spec =
