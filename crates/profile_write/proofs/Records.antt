@@ -16,18 +16,20 @@ use Rattle.codec.specs.Packing.{bits, pack, unpack, recut}
 use Rattle.codec.specs.Layout.{headerWidths, jobWidths, byteWidths, fieldsOf, recordBytes, profileBytes, profileLength}
 use Rattle.codec.proofs.Packing.{length-recut}
 
--- the bytes of one job more, behind
-pub record-bytes-snoc : (js : List Job) (j : Job) → recordBytes (js ++ (j ∷ [])) ≡ recordBytes js ++ recut jobWidths (byteWidths 8) (fieldsOf j)
+-- the bytes of one job, and of one job more, behind
+abbrev pub jobBytes : Job → List ℕ
+jobBytes j = recut jobWidths (byteWidths 8) (fieldsOf j)
+
+pub record-bytes-snoc : (js : List Job) (j : Job) → recordBytes (js ++ (j ∷ [])) ≡ recordBytes js ++ jobBytes j
 unfolding recordBytes flatMap
 record-bytes-snoc [] j = append-nil _
-record-bytes-snoc (i ∷ js) j = ap (λ (l : List ℕ). recut jobWidths (byteWidths 8) (fieldsOf i) ++ l) (record-bytes-snoc js j) ∙ sym (append-assoc (recut jobWidths (byteWidths 8) (fieldsOf i)) (recordBytes js) (recut jobWidths (byteWidths 8) (fieldsOf j)))
+record-bytes-snoc (i ∷ js) j = ap (λ (l : List ℕ). jobBytes i ++ l) (record-bytes-snoc js j) ∙ sym (append-assoc (jobBytes i) (recordBytes js) (jobBytes j))
 
 pub length-record-bytes : (js : List Job) → length (recordBytes js) ≡ 8 * length js
 unfolding recordBytes flatMap
 length-record-bytes [] = refl
 length-record-bytes (j ∷ js) =
-    length-append (recut jobWidths (byteWidths 8) (fieldsOf j)) (recordBytes js)
-    ∙ omega (arith, length-recut jobWidths (byteWidths 8) (fieldsOf j), length-record-bytes js)
+    length-append (jobBytes j) (recordBytes js) ∙ omega (arith, length-recut jobWidths (byteWidths 8) (fieldsOf j), length-record-bytes js)
 
 pub length-profile-bytes : (p : Profile) → length (profileBytes p) ≡ profileLength (p .n)
 unfolding profileBytes
@@ -48,37 +50,58 @@ pub record Filled (start : List ℕ) (js : List Job) (k : ℕ) (out : List ℕ) 
 
 pub nothing-filled : (start : List ℕ) → Filled start [] 0 start
 unfolding recordBytes flatMap
-nothing-filled start = record { jobs = refl; same = refl; bytes = sym (ap (λ (l : List ℕ). l ++ drop 1 start) (append-nil (take 1 start)) ∙ take-append-drop 1 start) }
+nothing-filled start =
+    let joined = ap (λ (l : List ℕ). l ++ drop 1 start) (append-nil (take 1 start)) ∙ take-append-drop 1 start in
+    record { jobs = refl; same = refl; bytes = sym joined }
 
 filled-bytes : (start : List ℕ) (js : List Job) (k : ℕ) (out : List ℕ) (j : Job) → 1 + 8 * k + 8 ≤ length start → Filled start js k out
-    → take (1 + 8 * k) out ++ (recut jobWidths (byteWidths 8) (fieldsOf j) ++ drop (1 + 8 * k + 8) out) ≡ take 1 start ++ recordBytes (js ++ (j ∷ [])) ++ drop (1 + 8 * (k + 1)) start
+    → take (1 + 8 * k) out ++ (jobBytes j ++ drop (1 + 8 * k + 8) out)
+    ≡ take 1 start ++ recordBytes (js ++ (j ∷ [])) ++ drop (1 + 8 * (k + 1)) start
 filled-bytes start js k out j room f =
-    let P = take 1 start ++ recordBytes js in
-    let R = recut jobWidths (byteWidths 8) (fieldsOf j) in
-    let rest = drop (1 + 8 * k) start in
-    let size : length P ≡ 1 + 8 * k = length-append (take 1 start) (recordBytes js) ∙ omega (arith, length-take-le 1 start (omega arith), length-record-bytes js, f .jobs) in
-    let front : take (1 + 8 * k) out ≡ P = ap (take (1 + 8 * k)) (f .bytes) ∙ take-at P rest (1 + 8 * k) size in
-    let place : 1 + 8 * k + 8 ≡ length P + 8 = omega arith in
-    let next : 1 + 8 * k + 8 ≡ 1 + 8 * (k + 1) = omega arith in
-    let back : drop (1 + 8 * k + 8) out ≡ drop (1 + 8 * (k + 1)) start = ap (drop (1 + 8 * k + 8)) (f .bytes) ∙ ap (λ (n : ℕ). drop n (P ++ rest)) place ∙ drop-append-add P rest 8 ∙ drop-drop 8 (1 + 8 * k) start ∙ ap (λ (n : ℕ). drop n start) next in
-    rw (front, back) (sym (append-assoc P R (drop (1 + 8 * (k + 1)) start)) ∙ ap (λ (l : List ℕ). l ++ drop (1 + 8 * (k + 1)) start) (append-assoc (take 1 start) (recordBytes js) R ∙ ap (λ (l : List ℕ). take 1 start ++ l) (sym (record-bytes-snoc js j))))
+    let at = 1 + 8 * k in
+    let H = take 1 start in
+    let P = H ++ recordBytes js in
+    let R = jobBytes j in
+    let rest = drop at start in
+    let E = drop (1 + 8 * (k + 1)) start in
+    let size : length P ≡ at =
+    length-append H (recordBytes js) ∙ omega (arith, length-take-le 1 start (omega arith), length-record-bytes js, f .jobs) in
+    let front : take at out ≡ P = ap (take at) (f .bytes) ∙ take-at P rest at size in
+    let place : at + 8 ≡ length P + 8 = omega arith in
+    let next : at + 8 ≡ 1 + 8 * (k + 1) = omega arith in
+    let back : drop (at + 8) out ≡ E =
+    ap (drop (at + 8)) (f .bytes)
+    ∙ ap (λ (n : ℕ). drop n (P ++ rest)) place
+    ∙ drop-append-add P rest 8
+    ∙ drop-drop 8 at start
+    ∙ ap (λ (n : ℕ). drop n start) next in
+    let joins = append-assoc H (recordBytes js) R ∙ ap (λ (l : List ℕ). H ++ l) (sym (record-bytes-snoc js j)) in
+    rw (front, back) (sym (append-assoc P R E) ∙ ap (λ (l : List ℕ). l ++ E) joins)
 
-pub one-filled : (start : List ℕ) (xs : List Job) (k : ℕ) (out : List ℕ) (j : Job) → 1 + 8 * k + 8 ≤ length start → j ≡ getD xs k noJob → Filled start (entries noJob xs 0 k) k out
+pub one-filled : (start : List ℕ) (xs : List Job) (k : ℕ) (out : List ℕ) (j : Job) → 1 + 8 * k + 8 ≤ length start → j ≡ getD xs k noJob
+    → Filled start (entries noJob xs 0 k) k out
     → (word : ℕ) → word ≡ pack jobWidths (fieldsOf j)
     → (new : List ℕ) → length new ≡ length out → new ≡ take (1 + 8 * k) out ++ (unpack (byteWidths 8) word ++ drop (1 + 8 * k + 8) out)
     → Filled start (entries noJob xs 0 (k + 1)) (k + 1) new
 unfolding recut
 one-filled start xs k out j room e f word w new same bytes =
     let js = entries noJob xs 0 k in
-    let more : js ++ (j ∷ []) ≡ entries noJob xs 0 (k + 1) = ap (λ (i : Job). js ++ (i ∷ [])) (e ∙ ap (λ (m : ℕ). getD xs m noJob) (sym (zero-add k))) ∙ sym (entries-snoc noJob xs 0 k) ∙ ap (entries noJob xs 0) (sym (add-one k)) in
+    let this = e ∙ ap (λ (m : ℕ). getD xs m noJob) (sym (zero-add k)) in
+    let more : js ++ (j ∷ []) ≡ entries noJob xs 0 (k + 1) =
+    ap (λ (i : Job). js ++ (i ∷ [])) this ∙ sym (entries-snoc noJob xs 0 k) ∙ ap (entries noJob xs 0) (sym (add-one k)) in
     record {
       jobs = length-entries noJob xs 0 (k + 1);
       same = same ∙ f .same;
-      bytes = bytes ∙ ap (λ (x : ℕ). take (1 + 8 * k) out ++ (unpack (byteWidths 8) x ++ drop (1 + 8 * k + 8) out)) w ∙ filled-bytes start js k out j room f ∙ ap (λ (l : List Job). take 1 start ++ recordBytes l ++ drop (1 + 8 * (k + 1)) start) more;
+      bytes =
+          bytes
+          ∙ ap (λ (x : ℕ). take (1 + 8 * k) out ++ (unpack (byteWidths 8) x ++ drop (1 + 8 * k + 8) out)) w
+          ∙ filled-bytes start js k out j room f
+          ∙ ap (λ (l : List Job). take 1 start ++ recordBytes l ++ drop (1 + 8 * (k + 1)) start) more;
     }
 
 -- after all jobs: the profile's bytes, and behind them what stood there before
-pub all-filled : (old : List ℕ) (p : Profile) (out : List ℕ) → 1 ≤ length old → Filled (set old 0 (16 + p .n)) (jobsOf p) (p .n) out → out ≡ profileBytes p ++ drop (profileLength (p .n)) old
+pub all-filled : (old : List ℕ) (p : Profile) (out : List ℕ) → 1 ≤ length old → Filled (set old 0 (16 + p .n)) (jobsOf p) (p .n) out
+    → out ≡ profileBytes p ++ drop (profileLength (p .n)) old
 unfolding profileBytes
 all-filled old p out h f =
     let start = set old 0 (16 + p .n) in

@@ -46,7 +46,8 @@ records-back (j ∷ js) v =
     let R = recut jobWidths (byteWidths 8) (fieldsOf j) in
     let size : length R ≡ 8 = length-recut jobWidths (byteWidths 8) (fieldsOf j) in
     ap₂ _∷_
-    (ap (recut (byteWidths 8) jobWidths) (take-at R (recordBytes js) 8 size) ∙ recut-back jobWidths (byteWidths 8) (fieldsOf j) same-bits (fields-within j (v .0)))
+    (ap (recut (byteWidths 8) jobWidths) (take-at R (recordBytes js) 8 size)
+    ∙ recut-back jobWidths (byteWidths 8) (fieldsOf j) same-bits (fields-within j (v .0)))
     (ap (recordsIn (length js)) (drop-at R (recordBytes js) 8 size) ∙ records-back js (v .1))
 
 jobs-back : (js : List Job) → map jobOf (map fieldsOf js) ≡ js
@@ -65,10 +66,16 @@ all-fields-sound (j ∷ js) k v = sound-passes {v = judgeRecord (fieldsOf j) (k 
 
 -- the bytes of a valid profile are accepted, and stand for its values
 module _ (p : Profile) (v : Valid p) where
+  abbrev head : List ℕ
+  head = recut headerWidths (byteWidths 1) (1 ∷ p .n ∷ [])
+
+  length-head : length head ≡ 1
+  length-head = length-recut headerWidths (byteWidths 1) (1 ∷ p .n ∷ [])
+
   header-back : headerOf (profileBytes p) ≡ 1 ∷ p .n ∷ []
   unfolding headerOf profileBytes
   header-back =
-      ap (recut (byteWidths 1) headerWidths) (take-at (recut headerWidths (byteWidths 1) (1 ∷ p .n ∷ [])) (recordBytes (jobsOf p)) 1 (length-recut headerWidths (byteWidths 1) (1 ∷ p .n ∷ [])))
+      ap (recut (byteWidths 1) headerWidths) (take-at head (recordBytes (jobsOf p)) 1 length-head)
       ∙ recut-back headerWidths (byteWidths 1) (1 ∷ p .n ∷ []) header-bits (omega arith)
 
   count-back : countOf (profileBytes p) ≡ p .n
@@ -81,18 +88,28 @@ module _ (p : Profile) (v : Valid p) where
   unfolding profileBytes
   all-records-back =
       ap (λ (n : ℕ). recordsIn n (drop 1 (profileBytes p))) (count-back ∙ sym (length-entries noJob (p .jobs) 0 (p .n)))
-      ∙ ap (recordsIn (length (jobsOf p))) (drop-at (recut headerWidths (byteWidths 1) (1 ∷ p .n ∷ [])) (recordBytes (jobsOf p)) 1 (length-recut headerWidths (byteWidths 1) (1 ∷ p .n ∷ [])))
+      ∙ ap (recordsIn (length (jobsOf p))) (drop-at head (recordBytes (jobsOf p)) 1 length-head)
       ∙ records-back (jobsOf p) (v .jobs)
 
   header-sound : judgeHeader (profileBytes p) ≡ Sound
   unfolding judgeHeader refuseIf
   header-sound =
       let size = length-profile-bytes p in
-      simp (ne-eqb (length (profileBytes p)) 0 (omega (arith, size)), edition-back, count-back, ne-eqb (p .n) 0 (omega arith), le-ltb 8 (p .n) (v .n-to), eq-eqb (length (profileBytes p)) (profileLength (p .n)) size)
+      simp (
+        ne-eqb (length (profileBytes p)) 0 (omega (arith, size)),
+        edition-back,
+        count-back,
+        ne-eqb (p .n) 0 (omega arith),
+        le-ltb 8 (p .n) (v .n-to),
+        eq-eqb (length (profileBytes p)) (profileLength (p .n)) size,
+      )
 
   bytes-accepted : verdictOfBytes (profileBytes p) ≡ Sound
   unfolding verdictOfBytes
-  bytes-accepted = sound-passes {v = judgeHeader (profileBytes p)} _ refl header-sound ∙ ap (firstRefused judgeRecord 0) all-records-back ∙ all-fields-sound (jobsOf p) 0 (v .jobs)
+  bytes-accepted =
+      sound-passes {v = judgeHeader (profileBytes p)} _ refl header-sound
+      ∙ ap (firstRefused judgeRecord 0) all-records-back
+      ∙ all-fields-sound (jobsOf p) 0 (v .jobs)
 
   values-back : valuesOf (profileBytes p) ≡ kept p
   values-back = λ i. record { n = count-back i; jobs = padded noJob ((ap (map jobOf) all-records-back ∙ jobs-back (jobsOf p)) i) }
@@ -155,7 +172,9 @@ records-kept (suc n) bytes k size h e =
     let w = recut-within (byteWidths 8) jobWidths (take 8 bytes) (sym same-bits) (parts .0) in
     let both = both-sound (judgeRecord fs (k + 1)) e in
     let rest = records-kept n (drop 8 bytes) (k + 1) (length-drop 8 bytes ∙ omega arith) (parts .1) (both .1) in
-    let front : recut jobWidths (byteWidths 8) (fieldsOf (jobOf fs)) ≡ take 8 bytes = ap (recut jobWidths (byteWidths 8)) (record-kept fs (k + 1) w (both .0)) ∙ recut-back (byteWidths 8) jobWidths (take 8 bytes) (sym same-bits) (parts .0) in
+    let front : recut jobWidths (byteWidths 8) (fieldsOf (jobOf fs)) ≡ take 8 bytes =
+    ap (recut jobWidths (byteWidths 8)) (record-kept fs (k + 1) w (both .0))
+    ∙ recut-back (byteWidths 8) jobWidths (take 8 bytes) (sym same-bits) (parts .0) in
     ((record-valid fs (k + 1) w (both .0), rest .0), ap₂ _++_ front (rest .1) ∙ take-append-drop 8 bytes)
 
 -- accepted bytes stand for a valid profile, whose bytes they are
@@ -186,7 +205,9 @@ module _ (bytes : List ℕ) (h : Bytes bytes) (sound : verdictOfBytes bytes ≡ 
   unfolding headerOf
   header-kept =
       let some : 1 ≤ length bytes = omega (arith, header .size) in
-      let two : 1 ∷ countOf bytes ∷ [] ≡ headerOf bytes = ap₂ (λ (a b : ℕ). a ∷ b ∷ []) (sym (header .edition) ∙ edition-is bytes some) (count-is bytes some) ∙ sym (header-fields bytes some) in
+      let fields = sym (header-fields bytes some) in
+      let two : 1 ∷ countOf bytes ∷ [] ≡ headerOf bytes =
+      ap₂ (λ (a b : ℕ). a ∷ b ∷ []) (sym (header .edition) ∙ edition-is bytes some) (count-is bytes some) ∙ fields in
       ap (recut headerWidths (byteWidths 1)) two ∙ recut-back (byteWidths 1) headerWidths (take 1 bytes) (sym header-bits) (parts .0)
 
   bytes-kept : profileBytes (valuesOf bytes) ≡ bytes

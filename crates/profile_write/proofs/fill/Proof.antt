@@ -46,7 +46,9 @@ add-put-word : tie.Need-add-put-word Inv-loop μ-loop
 add-put-word c = search needs
 
 -- there is room for the k-th record, in the buffer as it was and as it is
-room-at-start : (c : tie.In-loop Inv-loop μ-loop) → 1 + 8 * c .before .loop .k + 8 ≤ length (set (c .before .before .before .args .out .now) 0 (16 + c .before .before .before .args .t1 .n))
+room-at-start : (c : tie.In-loop Inv-loop μ-loop) →
+    let a = c .before .before .before .args in
+    1 + 8 * c .before .loop .k + 8 ≤ length (set (a .out .now) 0 (16 + a .t1 .n))
 room-at-start c = simp length-set (omega (arith, c .before .before .before .pre .1))
 
 room : (c : tie.In-loop Inv-loop μ-loop) → 1 + 8 * c .before .loop .k + 8 ≤ length (c .before .loop .out)
@@ -71,7 +73,9 @@ loop-again c =
     let i = c .before .before .before .before .before .before in
     let l = i .before .loop in
     let a = i .before .before .before .args in
-    (omega arith, one-filled _ (a .t1 .jobs) (l .k) (l .out) _ (room-at-start i) refl (l .inv .1) _ (c .before .before .before .pack-record .ensures) _ (c .before .before .put-word .kept .0) (c .before .before .put-word .ensures))
+    let word = c .before .before .before .pack-record .ensures in
+    let put = c .before .before .put-word in
+    (omega arith, one-filled _ (a .t1 .jobs) (l .k) (l .out) _ (room-at-start i) refl (l .inv .1) _ word _ (put .kept .0) (put .ensures))
 
 same-length : tie.Need-same-length Inv-loop μ-loop
 same-length c = c .before .loop .inv .1 .same ∙ length-set (c .before .before .before .args .out .now) 0 (16 + c .before .before .before .args .t1 .n)
@@ -80,8 +84,11 @@ returns : tie.Need-returns Inv-loop μ-loop
 returns c =
     let l = c .before .loop in
     let s = c .before .before .before in
-    let done : l .k ≡ s .args .t1 .n = omega arith in
-    all-filled (s .args .out .now) (s .args .t1) (l .out) (omega arith) (subst (λ (k : ℕ). Filled (set (s .args .out .now) 0 (16 + s .args .t1 .n)) (entries noJob (s .args .t1 .jobs) 0 k) k (l .out)) done (l .inv .1))
+    let p = s .args .t1 in
+    let out = s .args .out .now in
+    let done : l .k ≡ p .n = omega arith in
+    let filled : ℕ → Type 0 = λ k. Filled (set out 0 (16 + p .n)) (entries noJob (p .jobs) 0 k) k (l .out) in
+    all-filled out p (l .out) (omega arith) (subst filled done (l .inv .1))
 
 pub fill-spec : {M : Type 1} → statement M
 fill-spec =
