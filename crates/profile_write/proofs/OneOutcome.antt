@@ -16,5 +16,6 @@ writes-one p old = puts-one p old (λ _. (refl, refl, refl))
 -- Any two outcomes that a function's own contract allows for the same arguments are equal: `Post` is what the checker makes of its
 -- clauses, so a contract that says less breaks this.
 
-pub write-profile-one-outcome : (κs : _) (a : _) (r s : Counted) (e e′ : _) → write-profile-contract.Post κs a r e → write-profile-contract.Post κs a s e′ → (r ≡ s) × (now (e .1 .0) ≡ now (e′ .1 .0))
+pub write-profile-one-outcome : (κs : _) (a : _) (r s : Counted) (e e′ : _) →
+    write-profile-contract.Post κs a r e → write-profile-contract.Post κs a s e′ → (r ≡ s) × (now (e .1 .0) ≡ now (e′ .1 .0))
 write-profile-one-outcome κs a r s e e′ one other = writes-one _ _ one other

@@ -115,13 +115,16 @@ module _ (p : Profile) (v : Valid p) where
   values-back = λ i. record { n = count-back i; jobs = padded noJob ((ap (map jobOf) all-records-back ∙ jobs-back (jobsOf p)) i) }
 
 -- what was written reads back as the same values, with zeros beyond n
-pub written-reads-back : (p : Profile) (old : List ℕ) {w : Counted} {new : List ℕ} {r : Reading} → Writes p old w new → w .verdict ≡ Sound → Reads (take (w .count) new) r → (r .verdict ≡ Sound) × (r .profile ≡ kept p)
+pub written-reads-back : (p : Profile) (old : List ℕ) {w : Counted} {new : List ℕ} {r : Reading} → Writes p old w new → w .verdict ≡ Sound →
+    Reads (take (w .count) new) r → (r .verdict ≡ Sound) × (r .profile ≡ kept p)
 unfolding ifSound
 written-reads-back p old {w} {new} {r} written sound read =
     let v = sound-valid p (both-sound (verdictOf p) (sym (written .verdict) ∙ sound) .0) in
-    let count : w .count ≡ profileLength (p .n) = written .count ∙ sym (beside-sound (profileLength (p .n)) 0 (sym sound)) in
-    let bytes : new ≡ profileBytes p ++ drop (length (profileBytes p)) old = written .bytes ∙ sym (beside-sound _ old (sym sound)) in
-    let front : take (w .count) new ≡ profileBytes p = ap₂ take count bytes ∙ take-at (profileBytes p) (drop (length (profileBytes p)) old) (profileLength (p .n)) (length-profile-bytes p) in
+    let own = profileLength (p .n) in
+    let rest = drop (length (profileBytes p)) old in
+    let count : w .count ≡ own = written .count ∙ sym (beside-sound own 0 (sym sound)) in
+    let bytes : new ≡ profileBytes p ++ rest = written .bytes ∙ sym (beside-sound _ old (sym sound)) in
+    let front : take (w .count) new ≡ profileBytes p = ap₂ take count bytes ∙ take-at (profileBytes p) rest own (length-profile-bytes p) in
     let accepted : verdictOfBytes (take (w .count) new) ≡ Sound = ap verdictOfBytes front ∙ bytes-accepted p v in (
       read .verdict ∙ accepted,
       read .profile ∙ ap (λ (x : Verdict). ifSound x (valuesOf (take (w .count) new)) noProfile) accepted ∙ ap valuesOf front ∙ values-back p v,
@@ -215,7 +218,8 @@ module _ (bytes : List ℕ) (h : Bytes bytes) (sound : verdictOfBytes bytes ≡ 
   bytes-kept = ap₂ _++_ header-kept (ap recordBytes jobs-read ∙ kept-records .1) ∙ take-append-drop 1 bytes
 
 -- accepted bytes are written back the same
-pub read-writes-back : (bytes : List ℕ) (old : List ℕ) {r : Reading} {w : Counted} {new : List ℕ} → Bytes bytes → Reads bytes r → r .verdict ≡ Sound → length bytes ≤ length old → Writes (r .profile) old w new → (w .verdict ≡ Sound) × (w .count ≡ length bytes) × (take (w .count) new ≡ bytes)
+pub read-writes-back : (bytes : List ℕ) (old : List ℕ) {r : Reading} {w : Counted} {new : List ℕ} → Bytes bytes → Reads bytes r → r .verdict ≡ Sound →
+    length bytes ≤ length old → Writes (r .profile) old w new → (w .verdict ≡ Sound) × (w .count ≡ length bytes) × (take (w .count) new ≡ bytes)
 unfolding ifSound refuseIf
 read-writes-back bytes old {r} {w} {new} h read sound room written =
     let accepted : verdictOfBytes bytes ≡ Sound = sym (read .verdict) ∙ sound in
@@ -224,7 +228,10 @@ read-writes-back bytes old {r} {w} {new} h read sound room written =
     let size = header bytes h accepted .size in
     let wrote = subst (λ (p : Profile). Writes p old w new) values written in
     let valid = valid-sound (valuesOf bytes) (values-valid bytes h accepted) in
-    let verdict : w .verdict ≡ Sound = wrote .verdict ∙ sound-passes {v = verdictOf (valuesOf bytes)} _ refl valid ∙ simp (le-ltb (length old) (profileLength n) (omega arith)) in
+    let verdict : w .verdict ≡ Sound =
+    wrote .verdict ∙ sound-passes {v = verdictOf (valuesOf bytes)} _ refl valid ∙ simp (le-ltb (length old) (profileLength n) (omega arith)) in
     let count : w .count ≡ length bytes = wrote .count ∙ sym (beside-sound (profileLength n) 0 (sym verdict)) ∙ sym size in
-    let front : new ≡ bytes ++ drop (length bytes) old = wrote .bytes ∙ sym (beside-sound _ old (sym verdict)) ∙ ap (λ (l : List ℕ). l ++ drop (length l) old) (bytes-kept bytes h accepted) in
-    (verdict, count, ap₂ take count front ∙ take-at bytes (drop (length bytes) old) (length bytes) refl)
+    let rest = drop (length bytes) old in
+    let front : new ≡ bytes ++ rest =
+    wrote .bytes ∙ sym (beside-sound _ old (sym verdict)) ∙ ap (λ (l : List ℕ). l ++ drop (length l) old) (bytes-kept bytes h accepted) in
+    (verdict, count, ap₂ take count front ∙ take-at bytes rest (length bytes) refl)
