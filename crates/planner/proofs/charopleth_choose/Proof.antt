@@ -12,7 +12,9 @@ use Rattle.planner.proofs.charopleth_choose.Statement.{statement}
 use Rattle.planner.proofs.charopleth_choose.Tie as tie
 
 -- the choice is that of the profile which the numbers hold
-of-these : (c : tie.After-choose) → Chosen (profileIn (c .before .before .args .n) (c .before .before .args .jobs .now)) (pagesPerHour (c .before .before .args .budget)) (c .choose .result)
+of-these : (c : tie.After-choose) →
+    let a = c .before .before .args in
+    Chosen (profileIn (a .n) (a .jobs .now)) (pagesPerHour (a .budget)) (c .choose .result)
 of-these c = subst (λ (p : Profile). Chosen p (pagesPerHour (c .before .before .args .budget)) (c .choose .result)) (c .before .profile .ensures) (c .choose .ensures)
 
 profile-requires : tie.Need-profile-requires

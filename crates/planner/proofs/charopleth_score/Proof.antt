@@ -1,6 +1,6 @@
 -- `planner::charopleth_score` meets its contract: the score for the profile and the periods that the numbers hold, handed on.
 -- Assumes nothing.
-use mathlib.Core.Path.{refl, sym, subst}
+use mathlib.Core.Path.{refl, sym, subst₂}
 use mathlib.Core.List.{List}
 use Rattle.model.specs.declared.Seconds.{Seconds}
 use Rattle.model.specs.declared.Profile.{Profile}
@@ -13,10 +13,12 @@ use Rattle.planner.proofs.charopleth_score.Statement.{statement}
 use Rattle.planner.proofs.charopleth_score.Tie as tie
 
 -- the score is that of the profile and the periods which the numbers hold
-of-these : (c : tie.After-score) → Scores (profileIn (c .before .before .before .args .n) (c .before .before .before .args .jobs .now)) (eightPeriodsIn (c .before .before .before .args .periods .now)) (c .score .result)
+of-these : (c : tie.After-score) →
+    let a = c .before .before .before .args in
+    Scores (profileIn (a .n) (a .jobs .now)) (eightPeriodsIn (a .periods .now)) (c .score .result)
 of-these c =
-    let r = c .score .result in
-    subst (λ (p : Profile). Scores p (eightPeriodsIn (c .before .before .before .args .periods .now)) r) (c .before .before .profile .ensures) (subst (λ (ts : List Seconds). Scores (c .before .before .profile .result) ts r) (c .before .as-periods .ensures) (c .score .ensures))
+    let Scored : Profile → List Seconds → Type 0 = λ p ts. Scores p ts (c .score .result) in
+    subst₂ Scored (c .before .before .profile .ensures) (c .before .as-periods .ensures) (c .score .ensures)
 
 profile-requires : tie.Need-profile-requires
 profile-requires c κs = search needs

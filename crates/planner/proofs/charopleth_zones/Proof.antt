@@ -1,16 +1,12 @@
 -- `planner::charopleth_zones` meets its contract: the listing for the profile that the numbers hold, handed on.
 -- Assumes nothing.
-use mathlib.Core.Path.{subst}
 use Rattle.model.specs.declared.Profile.{Profile}
+use Rattle.model.specs.declared.Counted.{Counted}
 use Rattle.zones.specs.Zones.{Listed}
-use Rattle.exchange.specs.Numbers.{profileIn}
+use Rattle.planner.proofs.Left.{count-told}
 use borrow.Author.Needs.{needs}
 use Rattle.planner.proofs.charopleth_zones.Statement.{statement}
 use Rattle.planner.proofs.charopleth_zones.Tie as tie
-
--- the listing is that of the profile which the numbers hold
-of-these : (c : tie.After-list-zones) → Listed (profileIn (c .before .before .before .before .args .n) (c .before .before .before .before .args .jobs .now)) (c .before .before .before .before .args .room .now) (c .list-zones .result) (c .list-zones .last .1 .0)
-of-these c = subst (λ (p : Profile). Listed p (c .before .before .before .before .args .room .now) (c .list-zones .result) (c .list-zones .last .1 .0)) (c .before .before .profile .ensures) (c .list-zones .ensures)
 
 profile-requires : tie.Need-profile-requires
 profile-requires c κs = search needs
@@ -27,7 +23,9 @@ same-length c = search needs
 returns : tie.Need-returns
 returns c =
     let s = c .before .before .before in
-    record { answer = s .list-zones .result; allowed = of-these s; result = c .counted .ensures }
+    let room = s .before .before .before .before .args .room .now in
+    let Allows : Profile → Counted → Type 0 = λ p a. Listed p room a (s .list-zones .last .1 .0) in
+    count-told Allows (s .before .before .profile .ensures) (s .list-zones .ensures) (c .counted .ensures)
 
 pub charopleth-zones-spec : {M : Type 1} → statement M
 charopleth-zones-spec =
