@@ -26,11 +26,16 @@ use Rattle.ladder_line.specs.Lines.{headerLine, rowLine}
 use Rattle.ladder_listing.specs.Listing.{lineOfRow, lineAt}
 use Rattle.ladder_listing.specs.Text.{rowLines, linesTo}
 
+-- the line of a list of periods
+abbrev lineOf : List Job → List Seconds → List ℕ
+lineOf js ts = rowLine (need js ts) (loss js ts) ts
+
 -- one row more
-rows-snoc : (js : List Job) (rows : List (List Seconds)) (ts : List Seconds) → rowLines js (rows ++ (ts ∷ [])) ≡ rowLines js rows ++ rowLine (need js ts) (loss js ts) ts
+rows-snoc : (js : List Job) (rows : List (List Seconds)) (ts : List Seconds) → rowLines js (rows ++ (ts ∷ [])) ≡ rowLines js rows ++ lineOf js ts
 unfolding rowLines
-rows-snoc js [] ts = append-nil (rowLine (need js ts) (loss js ts) ts)
-rows-snoc js (us ∷ rows) ts = ap (λ (l : List ℕ). rowLine (need js us) (loss js us) us ++ l) (rows-snoc js rows ts) ∙ sym (append-assoc (rowLine (need js us) (loss js us) us) (rowLines js rows) (rowLine (need js ts) (loss js ts) ts))
+rows-snoc js [] ts = append-nil (lineOf js ts)
+rows-snoc js (us ∷ rows) ts =
+    ap (λ (l : List ℕ). lineOf js us ++ l) (rows-snoc js rows ts) ∙ sym (append-assoc (lineOf js us) (rowLines js rows) (lineOf js ts))
 
 module _ (p : Profile) (v : Valid p) {rows : List (List Seconds)} (all : AllPermitted (jobsOf p) rows) {table : List ℕ} (laid : Laid (jobsOf p) rows table) where
   within : length rows ≤ rowsIn table
@@ -39,19 +44,25 @@ module _ (p : Profile) (v : Valid p) {rows : List (List Seconds)} (all : AllPerm
   module _ (k : ℕ) (less : k < length rows) where
     scores : Sound ≡ scoreVerdict p (periodsAt table k)
     unfolding scoreVerdict
-    scores = sym (sound-passes {v = verdictOf p} _ refl (valid-sound p v) ∙ ap (firstUnpermitted 0 (seconds 1) (jobsOf p)) (list-at p v all laid k less) ∙ permitted-sound 0 (seconds 1) (jobsOf p) (getD rows k []) (all _ (row-member rows k less)))
+    scores =
+        let listed = ap (firstUnpermitted 0 (seconds 1) (jobsOf p)) (list-at p v all laid k less) in
+        let permitted = permitted-sound 0 (seconds 1) (jobsOf p) (getD rows k []) (all _ (row-member rows k less)) in
+        sym (sound-passes {v = verdictOf p} _ refl (valid-sound p v) ∙ listed ∙ permitted)
 
-    pub row-line-is : lineOfRow p table k ≡ rowLine (need (jobsOf p) (getD rows k [])) (loss (jobsOf p) (getD rows k [])) (getD rows k [])
+    pub row-line-is : lineOfRow p table k ≡ lineOf (jobsOf p) (getD rows k [])
     unfolding lineOfRow
     row-line-is =
+        let ts = getD rows k [] in
+        let start = start-at (jobsOf p) (v .jobs) (few-jobs p v) all laid k less in
         rw (lt-ltb k (rowsIn table) (omega (arith, within)))
         (sym (beside-sound _ _ scores)
-        ∙ ap₂ (λ (s : _) (l : ℕ). rowLine s l (periodsOf p (periodsAt table k))) (start-at (jobsOf p) (v .jobs) (few-jobs p v) all laid k less) (loss-at p v all laid k less)
-        ∙ ap (rowLine (need (jobsOf p) (getD rows k [])) (loss (jobsOf p) (getD rows k []))) (list-at p v all laid k less))
+        ∙ ap₂ (λ (s : _) (l : ℕ). rowLine s l (periodsOf p (periodsAt table k))) start (loss-at p v all laid k less)
+        ∙ ap (rowLine (need (jobsOf p) ts) (loss (jobsOf p) ts)) (list-at p v all laid k less))
 
 -- the lines up to line k are the header and the lines of k rows
-module _ (l : Listing) (sound : l .verdict ≡ Sound) (v : Valid (l .profile)) {rows : List (List Seconds)} (all : AllPermitted (jobsOf (l .profile)) rows) {table : List ℕ} (laid : Laid (jobsOf (l .profile)) rows table) (count : l .rows ≡ length rows) where
-  line-is : (k : ℕ) → k < length rows → lineAt l table (suc k) ≡ rowLine (need (jobsOf (l .profile)) (getD rows k [])) (loss (jobsOf (l .profile)) (getD rows k [])) (getD rows k [])
+module _ (l : Listing) (sound : l .verdict ≡ Sound) (v : Valid (l .profile)) {rows : List (List Seconds)}
+    (all : AllPermitted (jobsOf (l .profile)) rows) {table : List ℕ} (laid : Laid (jobsOf (l .profile)) rows table) (count : l .rows ≡ length rows) where
+  line-is : (k : ℕ) → k < length rows → lineAt l table (suc k) ≡ lineOf (jobsOf (l .profile)) (getD rows k [])
   unfolding lineAt
   line-is k less = sym (beside-sound _ _ (sym sound)) ∙ rw (lt-ltb k (l .rows) (omega arith)) (row-line-is (l .profile) v all laid k less)
 
@@ -66,4 +77,6 @@ module _ (l : Listing) (sound : l .verdict ≡ Sound) (v : Valid (l .profile)) {
       ∙ ap (λ (t : List ℕ). H ++ t) (sym (ap (rowLines js) (take-suc rows k [] to) ∙ rows-snoc js (take k rows) (getD rows k [])))
 
   pub sound-lines : linesTo l table (l .rows) ≡ headerLine (l .profile .n) (length rows) ++ rowLines (jobsOf (l .profile)) rows
-  sound-lines = lines-to (l .rows) (omega arith) ∙ ap₂ (λ (n : ℕ) (r : List (List Seconds)). headerLine (l .profile .n) n ++ rowLines (jobsOf (l .profile)) r) count (ap (λ (k : ℕ). take k rows) count ∙ take-length rows)
+  sound-lines =
+      let lines : ℕ → List (List Seconds) → List ℕ = λ n r. headerLine (l .profile .n) n ++ rowLines (jobsOf (l .profile)) r in
+      lines-to (l .rows) (omega arith) ∙ ap₂ lines count (ap (λ (k : ℕ). take k rows) count ∙ take-length rows)

@@ -8,7 +8,8 @@ use Rattle.model.specs.declared.Seconds.{Seconds}
 use Rattle.model.specs.declared.Job.{Job}
 use Rattle.model.specs.declared.Profile.{Profile}
 use Rattle.model.specs.declared.Verdict.the-variants.{Sound}
-use Rattle.model.specs.Model.{seconds, noJob, entries, jobsOf, lastOf, load, cost, pagesIn, need, rate, jobLoss, loss, refuseIf, orElse, ifSound, firstRefused, judgeIntervalAndStiffness, judgeJob, verdictOf}
+use Rattle.model.specs.Model.{seconds, noJob, entries, jobsOf, lastOf, load, cost, pagesIn, need, rate, jobLoss, loss}
+use Rattle.model.specs.Model.{refuseIf, orElse, ifSound, firstRefused, judgeIntervalAndStiffness, judgeJob, verdictOf}
 use Rattle.model.specs.Climb.{inTurn, climbTo}
 use Rattle.model.specs.ProfileA.{bytesA}
 use Rattle.model.proofs.Validity.{sound-valid}
@@ -61,7 +62,8 @@ table-is : TableOf (jobsOf profileA) rowsA
 table-is = subst (TableOf (jobsOf profileA)) rows-are (descent-table (jobsOf profileA) (sound-valid profileA sound .jobs))
 
 text-is : textA ≡ textOf readingA rowsA
-unfolding textA readingA profileA job rowsA three textOf listingVerdict verdictOf judgeJob judgeIntervalAndStiffness firstRefused orElse refuseIf ifSound entries headerLine rowLines rowLine spacedPeriods spaced decimal digitsOf need loss load cost pagesIn lastOf rate jobLoss
+unfolding textA readingA profileA job rowsA three textOf listingVerdict verdictOf judgeJob judgeIntervalAndStiffness firstRefused
+    orElse refuseIf ifSound entries headerLine rowLines rowLine spacedPeriods spaced decimal digitsOf need loss load cost pagesIn lastOf rate jobLoss
 text-is = refl
 
 -- Profile A's text is document 01's.

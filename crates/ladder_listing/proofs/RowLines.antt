@@ -29,17 +29,21 @@ scored-printable p ts s e =
     let v = sound-valid p (sound-own p ts s e) in
     record { few = v .n-to; each = λ i h. rw (getD-entries (seconds 0) ts h) at (period-to (seconds 1) (jobsOf p) (periodsOf p ts) (v .jobs) (sound-allowed p ts s e) i) }
 
+-- the line of a row that has been read
+abbrev lineRead : Profile → TableRow → List ℕ
+lineRead p row =
+    let ts = periodsOf p (row .periods) in
+    ifSound (scoreVerdict p (row .periods)) (rowLine (row .start) (loss (jobsOf p) ts) ts) []
+
 module _ (p : Profile) (table : List ℕ) (k : ℕ) where
   pub no-such-row : rowsIn table ≤ k → lineOfRow p table k ≡ []
   unfolding lineOfRow
   no-such-row h = rw (le-ltb k (rowsIn table) h)
 
   module _ (there : k < rowsIn table) {row : TableRow} (is : row ≡ rowAt table k) {s : Scored} (scores : Scores p (row .periods) s) where
-    here : lineOfRow p table k ≡ ifSound (scoreVerdict p (row .periods)) (rowLine (row .start) (loss (jobsOf p) (periodsOf p (row .periods))) (periodsOf p (row .periods))) []
+    here : lineOfRow p table k ≡ lineRead p row
     unfolding lineOfRow
-    here =
-        rw (lt-ltb k (rowsIn table) there)
-        (ap (λ (x : TableRow). ifSound (scoreVerdict p (x .periods)) (rowLine (x .start) (loss (jobsOf p) (periodsOf p (x .periods))) (periodsOf p (x .periods))) []) (sym is))
+    here = rw (lt-ltb k (rowsIn table) there) (ap (lineRead p) (sym is))
 
     pub periods-refused : Refuses (s .verdict) → lineOfRow p table k ≡ []
     periods-refused h = here ∙ sym (beside-refusal _ _ h (verdict-is p (row .periods) scores))

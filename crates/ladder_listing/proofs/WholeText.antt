@@ -24,7 +24,9 @@ use Rattle.ladder_listing.proofs.Verdicts.{sound-or-refused}
 module _ {input old : List ℕ} {l : Listing} {new : List ℕ} (prepared : Prepares input old l new) where
   -- the verdict on building, at the room that is lent
   at-room : prepared .building .verdict ≡ orElse (verdictOf (prepared .reading .profile)) (countVerdict (length (prepared .built .rows)) (16 * 4096))
-  at-room = prepared .built .puts .verdict ∙ ap (λ (size : ℕ). orElse (verdictOf (prepared .reading .profile)) (countVerdict (length (prepared .built .rows)) size)) (prepared .room)
+  at-room =
+      let p = prepared .reading .profile in
+      prepared .built .puts .verdict ∙ ap (λ (size : ℕ). orElse (verdictOf p) (countVerdict (length (prepared .built .rows)) size)) (prepared .room)
 
   verdict-is : l .verdict ≡ listingVerdict (prepared .reading) (length (prepared .built .rows))
   unfolding listingVerdict
@@ -63,7 +65,10 @@ module _ {input old : List ℕ} {l : Listing} {new : List ℕ} (prepared : Prepa
     all-permitted ts m = prepared .built .are profile-sound .some-budget ts m .2 .permitted
 
     laid : Laid (jobsOf (prepared .reading .profile)) (prepared .built .rows) new
-    laid = record { rest = drop (length (tableBytes (jobsOf (prepared .reading .profile)) (prepared .built .rows))) old; is = prepared .built .puts .bytes ∙ sym (beside-sound _ _ (sym built-sound)) }
+    laid = record {
+      rest = drop (length (tableBytes (jobsOf (prepared .reading .profile)) (prepared .built .rows))) old;
+      is = prepared .built .puts .bytes ∙ sym (beside-sound _ _ (sym built-sound));
+    }
 
     count : l .rows ≡ length (prepared .built .rows)
     count = prepared .rows ∙ prepared .built .puts .count ∙ sym (beside-sound _ _ (sym built-sound))
@@ -73,7 +78,8 @@ module _ {input old : List ℕ} {l : Listing} {new : List ℕ} (prepared : Prepa
     sound-text =
         let rows = prepared .built .rows in
         let e = sym (prepared .profile ∙ sym (beside-sound _ _ (sym sound))) in
-        sound-lines l sound (subst Valid e valid) (subst (λ (q : Profile). AllPermitted (jobsOf q) rows) e all-permitted) (subst (λ (q : Profile). Laid (jobsOf q) rows new) e laid) count
+        let all = subst (λ (q : Profile). AllPermitted (jobsOf q) rows) e all-permitted in
+        sound-lines l sound (subst Valid e valid) all (subst (λ (q : Profile). Laid (jobsOf q) rows new) e laid) count
         ∙ ap (λ (q : Profile). headerLine (q .n) (length rows) ++ rowLines (jobsOf q) rows) (sym e)
         ∙ beside-sound _ _ (sym sound ∙ verdict-is)
 
