@@ -1,13 +1,13 @@
 -- What looking a budget up answers can be computed: the checks as tests, in their order, and what each leaves meets the contract. So
 -- every lookup has an answer, and worked cases are computed. Assumes nothing.
-use mathlib.Core.Path.{_≡_, refl, sym, _∙_, ap}
+use mathlib.Core.Path.{_≡_, refl, sym, _∙_}
 use mathlib.Core.List.{List}
-use mathlib.Core.Bool.{Bool, true, false, cond, _&&_}
+use mathlib.Core.Bool.{Bool, true, false, cond, _&&_, true≢false}
 use Prim.Native.Nat.{ℕ, _+_, _%_, _≤_, _<_}
 use native.Mathlib.Omega.{arith}
 use lib.ListN.{length}
 use lib.Dec.{eqb, ltb}
-use borrow.Author.Tests.{eqb-true, ltb-true, ltb-false, eqb-false, lt-ltb, eq-eqb}
+use borrow.Author.Tests.{eqb-true, ltb-true, ltb-false, lt-ltb, eq-eqb}
 use Rattle.model.specs.declared.PagesPerHour.{PagesPerHour}
 use Rattle.model.specs.declared.Profile.{Profile}
 use Rattle.model.specs.declared.Counted.{Counted}
@@ -33,7 +33,8 @@ bad-named (all-good good) h w = absurd (omega arith)
 bad-named (first-bad f) h w = bad-row w f
 
 -- past the checks of a table its first start decides
-pub from-first : {p : Profile} {bytes : List ℕ} {b : PagesPerHour} → WellFormed p bytes → startAt bytes 0 .0 ≤ b .0 → Finds p bytes b (record { verdict = Sound; count = lastWithin bytes b (rowsIn bytes) + 1 })
+pub from-first : {p : Profile} {bytes : List ℕ} {b : PagesPerHour} → WellFormed p bytes → startAt bytes 0 .0 ≤ b .0 →
+    Finds p bytes b (record { verdict = Sound; count = lastWithin bytes b (rowsIn bytes) + 1 })
 from-first {bytes} {b} w h = answering w (last-answers bytes b (w .size) h)
 
 unfoldable pub wholeRows : List ℕ → Bool
@@ -74,9 +75,12 @@ module _ (p : Profile) (bytes : List ℕ) (b : PagesPerHour) where
       formed : WholeRows bytes → bad ≤ 0 → WellFormed p bytes
       formed w none = record { size = w; rows = none-bad checked none }
 
+      last : Counted
+      last = record { verdict = Sound; count = lastWithin bytes b (rowsIn bytes) + 1 }
+
       go : (t : Bool) → wholeRows bytes ≡ t → (u : Bool) → ltb 0 bad ≡ u → (s : Bool) → ltb (b .0) (startAt bytes 0 .0) ≡ s
-          → Finds p bytes b (cond t (cond u (noRow (Row bad)) (cond s (noRow (Budget (startAt bytes 0))) (record { verdict = Sound; count = lastWithin bytes b (rowsIn bytes) + 1 }))) (noRow (Row 0)))
-      go false e u f s g = wrong-length (λ w. eqb-false 0 1 refl (ap (λ (t : Bool). cond t 1 0) (sym e ∙ whole-all w)))
+          → Finds p bytes b (cond t (cond u (noRow (Row bad)) (cond s (noRow (Budget (startAt bytes 0))) last)) (noRow (Row 0)))
+      go false e u f s g = wrong-length (λ w. true≢false (sym (whole-all w) ∙ e))
       go true e true f s g = bad-named checked (ltb-true 0 _ f) (whole-only e)
       go true e false f true g = below-first (formed (whole-only e) (ltb-false 0 _ f)) (ltb-true _ _ g)
       go true e false f false g = from-first (formed (whole-only e) (ltb-false 0 _ f)) (ltb-false _ _ g)

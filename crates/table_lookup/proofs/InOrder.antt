@@ -13,7 +13,8 @@ use Rattle.table.specs.Descent.{StartsRise}
 use Rattle.table.proofs.Best.{table-losses-fall}
 use Rattle.table_lookup.proofs.Laid.{AllPermitted, row-member}
 
-rising-at : (js : List Job) (rows : List (List Seconds)) → StartsRise js rows → (i j : ℕ) → i < j → j < length rows → need js (getD rows i []) .0 < need js (getD rows j []) .0
+rising-at : (js : List Job) (rows : List (List Seconds)) → StartsRise js rows → (i j : ℕ) → i < j → j < length rows →
+    need js (getD rows i []) .0 < need js (getD rows j []) .0
 rising-at js [] h i j after less = absurd (not-suc-le-zero less)
 rising-at js (ts ∷ rows) h i zero after less = absurd (not-suc-le-zero after)
 rising-at js (ts ∷ rows) h zero (suc j) after less = h .0 (getD rows j []) (row-member rows j (le-of-suc-le-suc less))

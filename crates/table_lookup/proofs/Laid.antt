@@ -36,7 +36,8 @@ permitted-length before (j ∷ js) (t ∷ ts) h = ap suc (permitted-length t js 
 -- eight entries are the list and the zeros behind it
 eight-entries : (ts : List Seconds) → length ts ≤ 8 → entries (seconds 0) ts 0 8 ≡ padded (seconds 0) ts
 eight-entries ts few =
-    let size : length (padded (seconds 0) ts) ≡ 8 = length-append ts (replicate (8 - length ts) (seconds 0)) ∙ omega (arith, length-replicate (8 - length ts) (seconds 0)) in
+    let size : length (padded (seconds 0) ts) ≡ 8 =
+    length-append ts (replicate (8 - length ts) (seconds 0)) ∙ omega (arith, length-replicate (8 - length ts) (seconds 0)) in
     entries-same (seconds 0) ts (padded (seconds 0) ts) 0 8 (λ j. sym (getD-padded ts (8 - length ts) j)) ∙ entries-all (seconds 0) (padded (seconds 0) ts) size
 
 -- the numbers that a row holds: its start, which is the need, and eight periods
@@ -83,7 +84,8 @@ within-append (suc k) m [] ys h g = absurd h
 within-append (suc k) m (x ∷ xs) ys h g = rw (suc-add k m) (h .0, within-append k m xs ys (h .1) g)
 
 -- the sixteen bytes at a row's place, whatever stands behind the table
-row-there : (js : List Job) (rows : List (List Seconds)) (rest : List ℕ) (k : ℕ) → k < length rows → take 16 (drop (16 * k) (tableBytes js rows ++ rest)) ≡ tableRow (need js (getD rows k [])) (getD rows k [])
+row-there : (js : List Job) (rows : List (List Seconds)) (rest : List ℕ) (k : ℕ) → k < length rows →
+    take 16 (drop (16 * k) (tableBytes js rows ++ rest)) ≡ tableRow (need js (getD rows k [])) (getD rows k [])
 unfolding tableBytes flatMap
 row-there js [] rest k less = absurd (not-suc-le-zero less)
 row-there js (ts ∷ rows) rest zero less =
@@ -119,13 +121,17 @@ table-is-bytes js v few (ts ∷ rows) all =
     rw (length-append R (tableBytes js rows), length-table-row (need js ts) ts) (within-append 16 (length (tableBytes js rows)) R (tableBytes js rows) row rest)
 
 -- what is read at a row's place
-module _ (js : List Job) (v : ValidJobs js) (few : length js ≤ 8) {rows : List (List Seconds)} (all : AllPermitted js rows) {bytes : List ℕ} (l : Laid js rows bytes) (k : ℕ) (less : k < length rows) where
+module _ (js : List Job) (v : ValidJobs js) (few : length js ≤ 8) {rows : List (List Seconds)} (all : AllPermitted js rows)
+    {bytes : List ℕ} (l : Laid js rows bytes) (k : ℕ) (less : k < length rows) where
   permitted-there : Permitted js (getD rows k [])
   permitted-there = all (getD rows k []) (row-member rows k less)
 
   pub fields-at : rowFields bytes k ≡ fieldsFor js (getD rows k [])
   unfolding rowFields
-  fields-at = ap (λ (s : List ℕ). recut (byteWidths 16) tableWidths (take 16 (drop (16 * k) s))) (l .is) ∙ ap (recut (byteWidths 16) tableWidths) (row-there js rows (l .rest) k less) ∙ row-back js v few (getD rows k []) permitted-there
+  fields-at =
+      ap (λ (s : List ℕ). recut (byteWidths 16) tableWidths (take 16 (drop (16 * k) s))) (l .is)
+      ∙ ap (recut (byteWidths 16) tableWidths) (row-there js rows (l .rest) k less)
+      ∙ row-back js v few (getD rows k []) permitted-there
 
   pub start-at : startAt bytes k ≡ need js (getD rows k [])
   start-at = ap (λ (fs : List ℕ). pagesPerHour (getD fs 0 0)) fields-at
@@ -145,7 +151,8 @@ unpadded p ts h =
 pub few-jobs : (p : Profile) → Valid p → length (jobsOf p) ≤ 8
 few-jobs p v = omega (arith, length-entries noJob (p .jobs) 0 (p .n), v .n-to)
 
-module _ (p : Profile) (v : Valid p) {rows : List (List Seconds)} (all : AllPermitted (jobsOf p) rows) {bytes : List ℕ} (l : Laid (jobsOf p) rows bytes) (k : ℕ) (less : k < length rows) where
+module _ (p : Profile) (v : Valid p) {rows : List (List Seconds)} (all : AllPermitted (jobsOf p) rows)
+    {bytes : List ℕ} (l : Laid (jobsOf p) rows bytes) (k : ℕ) (less : k < length rows) where
   pub list-at : periodsOf p (periodsAt bytes k) ≡ getD rows k []
   list-at = ap (periodsOf p) (periods-at (jobsOf p) (v .jobs) (few-jobs p v) all l k less) ∙ unpadded p (getD rows k []) (all _ (row-member rows k less))
 

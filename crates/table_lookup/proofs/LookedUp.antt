@@ -66,7 +66,9 @@ module _ (p : Profile) (v : Valid p) {rows : List (List Seconds)} (t : TableOf (
         its-need = ap (λ (us : List Seconds). need (jobsOf p) us .0) e
 
         later : (j : ℕ) → i < j → j < length rows → Dec (need (jobsOf p) (getD rows j []) .0 ≤ b .0) → b .0 < startAt (tableBytes (jobsOf p) rows) j .0
-        later j after to (yes le) = absurd (omega (arith, needs-follow (best-at-need (t .some-budget _ (row-member rows j to) .2)) best le, starts-rise t i j after to, its-need))
+        later j after to (yes le) =
+            let own-best = best-at-need (t .some-budget _ (row-member rows j to) .2) in
+            absurd (omega (arith, needs-follow own-best best le, starts-rise t i j after to, its-need))
         later j after to (no gt) = omega (arith, start-number p v t (laid-alone (jobsOf p) rows) j to)
 
     best-shown : (i : ℕ) → i < length rows → getD rows i [] ≡ ts → Shows p (tableBytes (jobsOf p) rows) i (answered (jobsOf p) ts)
@@ -81,22 +83,30 @@ module _ (p : Profile) (v : Valid p) {rows : List (List Seconds)} (t : TableOf (
     best-looked-up =
         let at = member-row (t .every-budget b ts small best) in
         let back : at .0 ≡ at .0 + 1 - 1 = omega arith in
-        (record { verdict = Sound; count = at .0 + 1 }, answering formed (best-answers (at .0) (at .1) (at .2)), record { verdict = refl; row = λ e. subst (λ (k : ℕ). Shows p (tableBytes (jobsOf p) rows) k (answered (jobsOf p) ts)) back (best-shown (at .0) (at .1) (at .2)) })
+        let shown = subst (λ (k : ℕ). Shows p (tableBytes (jobsOf p) rows) k (answered (jobsOf p) ts)) back (best-shown (at .0) (at .1) (at .2)) in (
+          record { verdict = Sound; count = at .0 + 1 },
+          answering formed (best-answers (at .0) (at .1) (at .2)),
+          record { verdict = refl; row = λ e. shown },
+        )
 
   outcome-looked-up : {c : Choice} → Outcome (jobsOf p) b c → FoundAs c
   unfolding FoundAs
   outcome-looked-up (given best) = best-looked-up best
   outcome-looked-up (none-permitted no-list) = absurd (no-list _ (first .enough .1))
   outcome-looked-up (none-fit l unfit) =
-      let below : b .0 < startAt (tableBytes (jobsOf p) rows) 0 .0 = too-small (decLe (need (jobsOf p) (getD rows 0 []) .0) (b .0)) in
-      (noRow (Budget (startAt (tableBytes (jobsOf p) rows) 0)), below-first formed below, record { verdict = ap Budget (first-there ∙ one-least-budget first l); row = λ e. absurd (eqb-false 10 0 refl (ap numberOf e)) })
+      let below : b .0 < startAt (tableBytes (jobsOf p) rows) 0 .0 = too-small (decLe (need (jobsOf p) (getD rows 0 []) .0) (b .0)) in (
+        noRow (Budget (startAt (tableBytes (jobsOf p) rows) 0)),
+        below-first formed below,
+        record { verdict = ap Budget (first-there ∙ one-least-budget first l); row = λ e. absurd (eqb-false 10 0 refl (ap numberOf e)) },
+      )
     where
       too-small : Dec (need (jobsOf p) (getD rows 0 []) .0 ≤ b .0) → b .0 < startAt (tableBytes (jobsOf p) rows) 0 .0
       too-small (yes le) = absurd (unfit _ (table-permitted t _ (row-member rows 0 some)) le)
       too-small (no gt) = omega (arith, ap (λ (q : PagesPerHour). q .0) first-there)
 
 -- Every budget is looked up in the bytes of a profile's table as it is chosen for.
-pub table-looked-up : (p : Profile) → Valid p → {rows : List (List Seconds)} → TableOf (jobsOf p) rows → (length rows ≡ 0 → ⊥) → LooksUpAll p (tableBytes (jobsOf p) rows)
+pub table-looked-up : (p : Profile) → Valid p → {rows : List (List Seconds)} → TableOf (jobsOf p) rows → (length rows ≡ 0 → ⊥) →
+    LooksUpAll p (tableBytes (jobsOf p) rows)
 unfolding FoundAs
 table-looked-up p v {rows} t some b small c chosen r located =
     let sound = valid-sound p v in

@@ -4,13 +4,11 @@
 use mathlib.Core.Path.{_≡_, refl, _∙_, sym, ap, subst}
 use mathlib.Core.Logic.{_↔_}
 use mathlib.Core.List.{List, []}
-use mathlib.Core.Bool.{Bool, true, false}
 use Prim.Native.Nat.{ℕ, _+_, _*_, _-_, _≤_}
 use native.Mathlib.Omega.{arith}
 use lib.ListN.{length, take, drop, length-drop}
 use lib.Seq.{length-take-le}
-use lib.Dec.{ltb}
-use borrow.Author.Tests.{eqb-false, ltb-true, ltb-false}
+use borrow.Author.Tests.{eqb-false}
 use Rattle.model.specs.declared.PagesPerHour.{PagesPerHour}
 use Rattle.model.specs.declared.Profile.{Profile}
 use Rattle.model.specs.declared.Counted.{Counted}
@@ -21,19 +19,14 @@ use Rattle.model.proofs.ProfileFirst.{sound-or-not, beside-unsound, one-first}
 use Rattle.model.proofs.Verdicts.{Refuses, beside-sound}
 use Rattle.table_check.specs.Formed.{FirstBadRow}
 use Rattle.table_lookup.specs.Lookup.{Answers, noRow, Finds, wrong-length, bad-row, below-first, answering, Locates, JudgesLookup, LooksUp}
-use Rattle.table_lookup.proofs.Finding.{one-answers, below-none}
+use Rattle.table_lookup.proofs.Finding.{neither-less, one-answers, below-none}
 use denote.Ref.{now, ptr}
 use Rattle.table_lookup.proofs.lookup.Reads as lookup-contract
 use Rattle.table_lookup.proofs.locate.Reads as locate-contract
 use Rattle.table_lookup.proofs.judge_lookup.Reads as judge-lookup-contract
 
 first-bad-one : {p : Profile} {bytes : List ℕ} (k j : ℕ) → FirstBadRow p bytes k → FirstBadRow p bytes j → k ≡ j
-first-bad-one k j one other = go (ltb k j) refl (ltb j k) refl
-  where
-    go : (t : Bool) → ltb k j ≡ t → (u : Bool) → ltb j k ≡ u → k ≡ j
-    go true e u f = absurd (one .bad (other .before k (ltb-true k j e)))
-    go false e true f = absurd (other .bad (one .before j (ltb-true j k f)))
-    go false e false f = omega (arith, ltb-false k j e, ltb-false j k f)
+first-bad-one k j one other = neither-less (λ less. one .bad (other .before k less)) (λ less. other .bad (one .before j less))
 
 pub finds-one : {p : Profile} {bytes : List ℕ} {b : PagesPerHour} {r s : Counted} → Finds p bytes b r → Finds p bytes b s → r ≡ s
 finds-one (wrong-length odd) (wrong-length odd′) = refl
@@ -60,10 +53,16 @@ pub judges-one : (p : Profile) (bytes : List ℕ) (b : PagesPerHour) {r s : Verd
 judges-one p bytes b one other = one .verdict ∙ ap (λ (c : Counted). c .verdict) (locates-one p bytes b (one .located) (other .located)) ∙ sym (other .verdict)
 
 -- a part is the same bytes at the same place
-pub looks-up-one : (p : Profile) (bytes : List ℕ) (lies : ℕ × ℕ) (b : PagesPerHour) {r s : List ℕ} {at other-at : ℕ × ℕ} → LooksUp p bytes lies b r at → LooksUp p bytes lies b s other-at → (r ≡ s) × (at ≡ other-at)
+abbrev partFor : List ℕ → Counted → List ℕ
+partFor bytes c = ifSound (c .verdict) (take 16 (drop (16 * (c .count - 1)) bytes)) []
+
+pub looks-up-one : (p : Profile) (bytes : List ℕ) (lies : ℕ × ℕ) (b : PagesPerHour) {r s : List ℕ} {at other-at : ℕ × ℕ} →
+    LooksUp p bytes lies b r at → LooksUp p bytes lies b s other-at → (r ≡ s) × (at ≡ other-at)
 looks-up-one p bytes lies b one other =
-    let same = locates-one p bytes b (one .located) (other .located) in
-    (one .holds ∙ ap (λ (c : Counted). ifSound (c .verdict) (take 16 (drop (16 * (c .count - 1)) bytes)) []) same ∙ sym (other .holds), one .place ∙ ap (λ (c : Counted). (lies .0, lies .1 + 16 * (c .count - 1))) same ∙ sym (other .place))
+    let same = locates-one p bytes b (one .located) (other .located) in (
+      one .holds ∙ ap (partFor bytes) same ∙ sym (other .holds),
+      one .place ∙ ap (λ (c : Counted). (lies .0, lies .1 + 16 * (c .count - 1))) same ∙ sym (other .place),
+    )
 
 -- beside a sound verdict stands the number of a row that answers, and beside a refusal none
 record RowBeside (bytes : List ℕ) (b : PagesPerHour) (r : Counted) : Type 0 where
@@ -126,7 +125,8 @@ module _ (p : Profile) (bytes : List ℕ) (b : PagesPerHour) {v : Verdict} (told
       subst (Locates p bytes b) (λ i. record { verdict = sound i; count = number i }) (told .located)
 
 -- on the same inputs: a refusal and the empty part, or no refusal and the sixteen bytes of a row
-module _ (p : Profile) (bytes : List ℕ) (lies : ℕ × ℕ) (b : PagesPerHour) {r : List ℕ} {at : ℕ × ℕ} {v : Verdict} (part : LooksUp p bytes lies b r at) (told : JudgesLookup p bytes b v) where
+module _ (p : Profile) (bytes : List ℕ) (lies : ℕ × ℕ) (b : PagesPerHour) {r : List ℕ} {at : ℕ × ℕ} {v : Verdict}
+    (part : LooksUp p bytes lies b r at) (told : JudgesLookup p bytes b v) where
   same-verdict : v ≡ part .found .verdict
   same-verdict = told .verdict ∙ ap (λ (c : Counted). c .verdict) (locates-one p bytes b (told .located) (part .located))
 
@@ -137,19 +137,22 @@ module _ (p : Profile) (bytes : List ℕ) (lies : ℕ × ℕ) (b : PagesPerHour)
   sound-sixteen e =
       let k = part .found .count - 1 in
       let there = sound-answers p bytes b (part .located) (sym same-verdict ∙ e) .there in
-      ap length (part .holds ∙ sym (beside-sound _ _ (sym e ∙ same-verdict))) ∙ length-take-le 16 (drop (16 * k) bytes) (omega (arith, length-drop (16 * k) bytes))
+      let size = length-take-le 16 (drop (16 * k) bytes) (omega (arith, length-drop (16 * k) bytes)) in
+      ap length (part .holds ∙ sym (beside-sound _ _ (sym e ∙ same-verdict))) ∙ size
 
 -- the part is empty exactly when the verdict is a refusal
-pub lookups-agree : (p : Profile) (bytes : List ℕ) (lies : ℕ × ℕ) (b : PagesPerHour) {r : List ℕ} {at : ℕ × ℕ} {v : Verdict} → LooksUp p bytes lies b r at → JudgesLookup p bytes b v → (v ≡ Sound → ⊥) ↔ (r ≡ [])
-lookups-agree p bytes lies b part told = (refused-empty p bytes lies b part told, λ none e. eqb-false 16 0 refl (sym (sound-sixteen p bytes lies b part told e) ∙ ap length none))
+pub lookups-agree : (p : Profile) (bytes : List ℕ) (lies : ℕ × ℕ) (b : PagesPerHour) {r : List ℕ} {at : ℕ × ℕ} {v : Verdict} →
+    LooksUp p bytes lies b r at → JudgesLookup p bytes b v → (v ≡ Sound → ⊥) ↔ (r ≡ [])
+lookups-agree p bytes lies b part told =
+    let sixteen = sound-sixteen p bytes lies b part told in
+    (refused-empty p bytes lies b part told, λ none e. eqb-false 16 0 refl (sym (sixteen e) ∙ ap length none))
 
 -- where a row is handed back, it is the row of the number told beside it
-pub located-part : (p : Profile) (bytes : List ℕ) (lies : ℕ × ℕ) (b : PagesPerHour) {r : List ℕ} {at : ℕ × ℕ} {l : Counted} → LooksUp p bytes lies b r at → Locates p bytes b l → l .verdict ≡ Sound → r ≡ take 16 (drop (16 * (l .count - 1)) bytes)
+pub located-part : (p : Profile) (bytes : List ℕ) (lies : ℕ × ℕ) (b : PagesPerHour) {r : List ℕ} {at : ℕ × ℕ} {l : Counted} →
+    LooksUp p bytes lies b r at → Locates p bytes b l → l .verdict ≡ Sound → r ≡ take 16 (drop (16 * (l .count - 1)) bytes)
 located-part p bytes lies b {r} {at} {l} part told e =
     let same = locates-one p bytes b (part .located) told in
-    part .holds
-    ∙ ap (λ (c : Counted). ifSound (c .verdict) (take 16 (drop (16 * (c .count - 1)) bytes)) []) same
-    ∙ sym (beside-sound _ _ (sym e))
+    part .holds ∙ ap (partFor bytes) same ∙ sym (beside-sound _ _ (sym e))
 
 -- Any two outcomes that a function's own contract allows for the same arguments are equal: `Post` is what the checker makes of its
 -- clauses, so a contract that says less breaks this.

@@ -94,24 +94,33 @@ module _ (p : Profile) (v : Valid p) where
       row-best = go (some-outcome (startAt bytes i) start-small)
         where
           go : {c : Choice} → Outcome (jobsOf p) (startAt bytes i) c → Best (jobsOf p) (startAt bytes i) (listAt p bytes i)
-          go (given best) = subst (Best (jobsOf p) (startAt bytes i)) (sym (found-best start-small best) ∙ ap (listAt p bytes) (one-answers bytes (startAt bytes i) _ i (found start-small best) own-start)) best
+          go (given best) =
+              let same = one-answers bytes (startAt bytes i) _ i (found start-small best) own-start in
+              subst (Best (jobsOf p) (startAt bytes i)) (sym (found-best start-small best) ∙ ap (listAt p bytes) same) best
           go (none-permitted no-list) = absurd (no-list _ (all-formed .rows i less .permitted))
           go (none-fit l unfit) = absurd (unfit _ (all-formed .rows i less .permitted) (omega (arith, all-formed .rows i less .start)))
 
     -- the rows read are the table
     pub read-table : TableOf (jobsOf p) (rowsRead p bytes)
     read-table = record {
-      some-budget = λ ts m. (let r = member-place p bytes m in (startAt bytes (r .0), start-small (r .0) (r .1), subst (Best (jobsOf p) (startAt bytes (r .0))) (r .2) (row-best (r .0) (r .1))));
+      some-budget = λ ts m. at-start (member-place p bytes m);
       every-budget = λ b ts small best. best-read small best;
       rising = read-rising p bytes all-formed;
     }
+      where
+        at-start : {ts : List Seconds} → (i : ℕ) × (i < rowsIn bytes) × (listAt p bytes i ≡ ts) → (b : PagesPerHour) × (b .0 < 2 ^ 32) × Best (jobsOf p) b ts
+        at-start r = (startAt bytes (r .0), start-small (r .0) (r .1), subst (Best (jobsOf p) (startAt bytes (r .0))) (r .2) (row-best (r .0) (r .1)))
 
 -- Bytes in which every budget is looked up as it is chosen for are the bytes of the profile's table.
-pub only-table : (p : Profile) → Valid p → (bytes : List ℕ) → Bytes bytes → LooksUpAll p bytes → {rows : List (List Seconds)} → TableOf (jobsOf p) rows → bytes ≡ tableBytes (jobsOf p) rows
-only-table p v bytes h same t = sym (formed-bytes p bytes (all-formed p v bytes same) h) ∙ ap (tableBytes (jobsOf p)) (table-one (jobsOf p) (read-table p v bytes same) t)
+pub only-table : (p : Profile) → Valid p → (bytes : List ℕ) → Bytes bytes → LooksUpAll p bytes →
+    {rows : List (List Seconds)} → TableOf (jobsOf p) rows → bytes ≡ tableBytes (jobsOf p) rows
+only-table p v bytes h same t =
+    let rows = table-one (jobsOf p) (read-table p v bytes same) t in
+    sym (formed-bytes p bytes (all-formed p v bytes same) h) ∙ ap (tableBytes (jobsOf p)) rows
 
 -- So they are what `build_table` writes.
-pub only-built : (p : Profile) (old : List ℕ) {r : Counted} {new : List ℕ} → Built p old r new → r .verdict ≡ Sound → (bytes : List ℕ) → Bytes bytes → LooksUpAll p bytes → bytes ≡ take (16 * r .count) new
+pub only-built : (p : Profile) (old : List ℕ) {r : Counted} {new : List ℕ} → Built p old r new → r .verdict ≡ Sound →
+    (bytes : List ℕ) → Bytes bytes → LooksUpAll p bytes → bytes ≡ take (16 * r .count) new
 only-built p old built e bytes h same =
     let held = built-holds p old built e in
     only-table p (held .valid) bytes h same (held .table) ∙ sym (held .is)

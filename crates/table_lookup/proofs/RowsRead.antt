@@ -48,7 +48,8 @@ row-kept bytes k h less =
     let fs = rowFields bytes k in
     let periods = ap (map (λ t. t .0)) (entries-all (seconds 0) (periodsAt bytes k) (length-periods bytes k)) ∙ numbers-again (drop 1 fs) in
     let fields = ap (λ (l : List ℕ). getD fs 0 0 ∷ l) periods ∙ sym (drop-cons fs 0 0 (omega (arith, length-fields bytes k))) in
-    ap (recut tableWidths (byteWidths 16)) fields ∙ recut-back (byteWidths 16) tableWidths (take 16 (drop (16 * k) bytes)) (sym row-bits) (sixteen-within bytes k h less)
+    let back = recut-back (byteWidths 16) tableWidths (take 16 (drop (16 * k) bytes)) (sym row-bits) (sixteen-within bytes k h less) in
+    ap (recut tableWidths (byteWidths 16)) fields ∙ back
 
 -- Rows.
 
@@ -67,35 +68,48 @@ rowsRead p bytes = rowsFrom p bytes 0 (rowsIn bytes)
 module _ (p : Profile) (bytes : List ℕ) where
   module _ (k : ℕ) (g : GoodRow p bytes k) where
     -- beyond n both have zeros
+    none-listed : (j : ℕ) → p .n ≤ j → getD (listAt p bytes k) j (seconds 0) ≡ seconds 0
+    none-listed j past = List·getD-eq-default (listAt p bytes k) (seconds 0) (omega (arith, length-entries (seconds 0) (periodsAt bytes k) 0 (p .n)))
+
     same-period : (j : ℕ) → Dec (j < p .n) → Dec (j < 8) → getD (listAt p bytes k) j (seconds 0) ≡ getD (periodsAt bytes k) j (seconds 0)
     same-period j (yes less) in-eight = getD-entries (seconds 0) (periodsAt bytes k) less
-    same-period j (no past) (yes in-eight) = List·getD-eq-default (listAt p bytes k) (seconds 0) (omega (arith, length-entries (seconds 0) (periodsAt bytes k) 0 (p .n))) ∙ ap seconds (sym (g .zeros j (omega arith) in-eight))
-    same-period j (no past) (no beyond) = List·getD-eq-default (listAt p bytes k) (seconds 0) (omega (arith, length-entries (seconds 0) (periodsAt bytes k) 0 (p .n))) ∙ sym (List·getD-eq-default (periodsAt bytes k) (seconds 0) (omega (arith, length-periods bytes k)))
+    same-period j (no past) (yes in-eight) = none-listed j (omega arith) ∙ ap seconds (sym (g .zeros j (omega arith) in-eight))
+    same-period j (no past) (no beyond) =
+        none-listed j (omega arith) ∙ sym (List·getD-eq-default (periodsAt bytes k) (seconds 0) (omega (arith, length-periods bytes k)))
 
     row-again : Bytes bytes → k < rowsIn bytes → tableRow (need (jobsOf p) (listAt p bytes k)) (listAt p bytes k) ≡ take 16 (drop (16 * k) bytes)
     unfolding tableRow
     row-again h less =
-        ap₂ (λ (q : ℕ) (ts : List Seconds). recut tableWidths (byteWidths 16) (q ∷ map (λ t. t .0) ts)) (g .start) (entries-same (seconds 0) (listAt p bytes k) (periodsAt bytes k) 0 8 (λ j. same-period j (decLt j (p .n)) (decLt j 8)))
-        ∙ row-kept bytes k h less
+        let same = entries-same (seconds 0) (listAt p bytes k) (periodsAt bytes k) 0 8 (λ j. same-period j (decLt j (p .n)) (decLt j 8)) in
+        ap₂ (λ (q : ℕ) (ts : List Seconds). recut tableWidths (byteWidths 16) (q ∷ map (λ t. t .0) ts)) (g .start) same ∙ row-kept bytes k h less
 
-  bytes-from : (m k : ℕ) → length bytes ≡ 16 * (k + m) → Bytes bytes → ((i : ℕ) → i < rowsIn bytes → GoodRow p bytes i) → tableBytes (jobsOf p) (rowsFrom p bytes k m) ≡ drop (16 * k) bytes
+  bytes-from : (m k : ℕ) → length bytes ≡ 16 * (k + m) → Bytes bytes → ((i : ℕ) → i < rowsIn bytes → GoodRow p bytes i) →
+      tableBytes (jobsOf p) (rowsFrom p bytes k m) ≡ drop (16 * k) bytes
   unfolding rowsFrom tableBytes flatMap
   bytes-from zero k size h good = sym (drop-of-length-le bytes {i = 16 * k} (omega arith))
   bytes-from (suc m) k size h good =
       let here : k < rowsIn bytes = omega arith in
       let next : 16 * (k + 1) ≡ 16 * k + 16 = omega arith in
-      ap₂ _++_ (row-again k (good k here) h here) (bytes-from m (k + 1) (size ∙ omega arith) h good ∙ ap (λ (n : ℕ). drop n bytes) next ∙ sym (drop-drop 16 (16 * k) bytes))
-      ∙ take-append-drop 16 (drop (16 * k) bytes)
+      let rest = bytes-from m (k + 1) (size ∙ omega arith) h good ∙ ap (λ (n : ℕ). drop n bytes) next ∙ sym (drop-drop 16 (16 * k) bytes) in
+      ap₂ _++_ (row-again k (good k here) h here) rest ∙ take-append-drop 16 (drop (16 * k) bytes)
 
   read-from : (m k i : ℕ) → k ≤ i → i < k + m → List·Memᴰ (listAt p bytes i) (rowsFrom p bytes k m)
   unfolding rowsFrom
   read-from zero k i from to = absurd (omega arith)
-  read-from (suc m) k i from to = ⊎-elim (λ (e : k ≡ i). List·Memᴰ·head (ap (listAt p bytes) (sym e))) (λ (less : k < i). List·Memᴰ·tail (read-from m (k + 1) i (omega arith) (omega arith))) (eq-or-lt-of-le from)
+  read-from (suc m) k i from to =
+      ⊎-elim
+      (λ (e : k ≡ i). List·Memᴰ·head (ap (listAt p bytes) (sym e)))
+      (λ (less : k < i). List·Memᴰ·tail (read-from m (k + 1) i (omega arith) (omega arith)))
+      (eq-or-lt-of-le from)
 
   place-from : (m k : ℕ) {ts : List Seconds} → List·Memᴰ ts (rowsFrom p bytes k m) → (i : ℕ) × (k ≤ i) × (i < k + m) × (listAt p bytes i ≡ ts)
   unfolding rowsFrom
   place-from zero k member = absurd (List·Memᴰ·not-nil member)
-  place-from (suc m) k {ts} member = ⊎-elim (λ (e : ts ≡ listAt p bytes k). (k, omega arith, omega arith, sym e)) (λ (later : List·Memᴰ ts (rowsFrom p bytes (k + 1) m)). go (place-from m (k + 1) later)) (List·Memᴰ·cases-cons member)
+  place-from (suc m) k {ts} member =
+      ⊎-elim
+      (λ (e : ts ≡ listAt p bytes k). (k, omega arith, omega arith, sym e))
+      (λ (later : List·Memᴰ ts (rowsFrom p bytes (k + 1) m)). go (place-from m (k + 1) later))
+      (List·Memᴰ·cases-cons member)
     where
       go : (i : ℕ) × (k + 1 ≤ i) × (i < k + 1 + m) × (listAt p bytes i ≡ ts) → (i : ℕ) × (k ≤ i) × (i < k + suc m) × (listAt p bytes i ≡ ts)
       go r = (r .0, omega (arith, r .1), omega (arith, r .2), r .3)
@@ -121,7 +135,9 @@ module _ (p : Profile) (bytes : List ℕ) where
             let r = place-from m (k + 1) member in
             let there : r .0 < rowsIn bytes = omega (arith, r .2) in
             let here : k < rowsIn bytes = omega arith in
-            omega (arith, w .rows k here .start, w .rows (r .0) there .start, starts-climb p bytes w (r .0) k (omega (arith, r .1)) there, ap (λ (l : List Seconds). need (jobsOf p) l .0) (r .3))
+            let climbs = starts-climb p bytes w (r .0) k (omega (arith, r .1)) there in
+            let same = ap (λ (l : List Seconds). need (jobsOf p) l .0) (r .3) in
+            omega (arith, w .rows k here .start, w .rows (r .0) there .start, climbs, same)
 
     pub read-rising : StartsRise (jobsOf p) (rowsRead p bytes)
     unfolding rowsRead

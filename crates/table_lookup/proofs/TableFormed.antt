@@ -63,7 +63,8 @@ module _ (p : Profile) (v : Valid p) {rows : List (List Seconds)} (t : TableOf (
 pub rows-in : (p : Profile) (rows : List (List Seconds)) → rowsIn (tableBytes (jobsOf p) rows) ≡ length rows
 rows-in p rows = omega (arith, length-table (jobsOf p) rows)
 
-pub table-well-formed : (p : Profile) → Valid p → {rows : List (List Seconds)} → TableOf (jobsOf p) rows → (length rows ≡ 0 → ⊥) → WellFormed p (tableBytes (jobsOf p) rows)
+pub table-well-formed : (p : Profile) → Valid p → {rows : List (List Seconds)} → TableOf (jobsOf p) rows → (length rows ≡ 0 → ⊥) →
+    WellFormed p (tableBytes (jobsOf p) rows)
 table-well-formed p v {rows} t some = record {
   size = record { some = omega (arith, size); whole = omega (arith, size) };
   rows = λ k less. rows-good p v t (laid-alone (jobsOf p) rows) k (rw (rows-in p rows) at less);

@@ -4,7 +4,6 @@ use Prim.Native.Nat.{_+_}
 use mathlib.Core.Path.{_≡_, refl, _∙_, sym, ap}
 use native.Mathlib.Omega.{arith}
 use Rattle.model.specs.declared.PagesPerHour.{PagesPerHour}
-use Rattle.model.specs.declared.Verdict.{Verdict}
 use Rattle.model.specs.declared.Verdict.the-variants.{Sound, Budget, Row}
 use Rattle.model.specs.Model.{verdictOf}
 use Rattle.model.proofs.ProfileFirst.{own-refused, past-profile}
@@ -26,7 +25,9 @@ whole : (c : tie.Else2) → WholeRows (c .before .before .before .before .before
 whole c = record { some = omega (arith, c .before .if1 .left); whole = c .if2 .left }
 
 -- no row is bad
-formed : (c : tie.Else3) → WellFormed (c .before .before .before .before .before .before .before .before .args .p) (c .before .before .before .before .before .before .before .before .args .table .now)
+formed : (c : tie.Else3) →
+    let a = c .before .before .before .before .before .before .before .before .args in
+    WellFormed (a .p) (a .table .now)
 formed c = record { size = whole (c .before .before); rows = none-bad (c .before .first-bad-row .ensures) (c .if3 .left) }
 
 judge-requires : tie.Need-judge-requires
@@ -52,7 +53,11 @@ first-bad-row-requires c κs = sound-valid _ (sound (c .before .before))
 returns-4 : tie.Need-returns-4
 returns-4 c =
     let f = c .before in
-    record { found = noRow (Row (f .first-bad-row .result)); located = past-profile (sound (f .before .before .before)) (bad-named (f .first-bad-row .ensures) (c .if3 .taken) (whole (f .before))); verdict = refl }
+    record {
+      found = noRow (Row (f .first-bad-row .result));
+      located = past-profile (sound (f .before .before .before)) (bad-named (f .first-bad-row .ensures) (c .if3 .taken) (whole (f .before)));
+      verdict = refl;
+    }
 
 start-at-requires : tie.Need-start-at-requires
 start-at-requires c κs = search needs
@@ -61,18 +66,20 @@ returns-5 : tie.Need-returns-5
 returns-5 c =
     let r = c .before .before .before in
     let e = r .start-at .ensures in
+    let start = ap (λ (x : PagesPerHour). x .0) e in
     record {
       found = noRow (Budget _);
-      located = past-profile (sound (r .before .before .before .before .before)) (below-first (formed (r .before)) (omega (arith, ap (λ (x : PagesPerHour). x .0) e, c .if4 .taken)));
+      located = past-profile (sound (r .before .before .before .before .before)) (below-first (formed (r .before)) (omega (arith, start, c .if4 .taken)));
       verdict = ap Budget e;
     }
 
 returns-6 : tie.Need-returns-6
 returns-6 c =
     let r = c .before .before .before in
+    let start = ap (λ (x : PagesPerHour). x .0) (r .start-at .ensures) in
     record {
       found = record { verdict = Sound; count = lastWithin _ _ _ + 1 };
-      located = past-profile (sound (r .before .before .before .before .before)) (from-first (formed (r .before)) (omega (arith, ap (λ (x : PagesPerHour). x .0) (r .start-at .ensures), c .if4 .left)));
+      located = past-profile (sound (r .before .before .before .before .before)) (from-first (formed (r .before)) (omega (arith, start, c .if4 .left)));
       verdict = refl;
     }
 

@@ -73,10 +73,11 @@ returns-2 c =
     let end = 16 * l .locate .result .count in
     let from : end - 16 ≡ 16 * (l .locate .result .count - 1) = omega (arith, some) in
     let sixteen : end - (end - 16) ≡ 16 = omega (arith, some) in
+    let t = a .table .now in
     record {
       found = l .locate .result;
       located = l .locate .ensures;
-      holds = ap (λ (n : ℕ). take n (drop (end - 16) (a .table .now))) sixteen ∙ ap (λ (n : ℕ). take 16 (drop n (a .table .now))) from ∙ beside-sound _ _ (sym (c .before .enum-told .given .1));
+      holds = ap (λ (n : ℕ). take n (drop (end - 16) t)) sixteen ∙ ap (λ (n : ℕ). take 16 (drop n t)) from ∙ beside-sound _ _ (sym (c .before .enum-told .given .1));
       place = ap (λ (n : ℕ). (a .table .ptr .0, n)) (add-comm (end - 16) (a .table .ptr .1) ∙ ap (λ (n : ℕ). a .table .ptr .1 + n) from);
     }
 
