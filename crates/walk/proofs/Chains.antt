@@ -14,8 +14,8 @@ use Rattle.model.proofs.Climb.{MultipleIn, climb-step, climb-end, climb-from, c
 use Rattle.model.proofs.Lists.{in-flat, flat-has, rising-map}
 use Rattle.walk.specs.Chains.{firstTry, lastTry, risingFrom, multiples, chainsBy, chains}
 use Rattle.model.proofs.Rounding.{round-up-le, round-up-above, multiple-is}
-use Rattle.walk.specs.Laws.{Sorted, ListsAllowed}
-use Rattle.walk.proofs.Sorted.{RisingPeriods, sorted-flat}
+use Rattle.walk.specs.Laws.{RisingPeriods, Sorted, ListsAllowed}
+use Rattle.walk.proofs.Sorted.{sorted-flat}
 
 -- the loop over multiples: one more step, or the end
 module _ (before last t : Seconds) (pos : 1 ≤ before .0) where

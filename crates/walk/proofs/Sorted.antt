@@ -6,18 +6,14 @@ use Prim.Native.Nat.{_<_}
 use native.Mathlib.Omega.{arith}
 use native.Mathlib.Nat.{le-refl}
 use Rattle.model.specs.declared.Seconds.{Seconds}
-use Rattle.model.specs.Model.{Rising, NotAfter}
+use Rattle.model.specs.Model.{NotAfter}
 use Rattle.model.proofs.Lists.{in-flat, rising-append, rising-map}
-use Rattle.walk.specs.Laws.{Earlier, Sorted}
+use Rattle.walk.specs.Laws.{RisingPeriods, Earlier, Sorted}
 
 -- no list comes after itself
 pub not-after-self : (ts : List Seconds) → NotAfter ts ts
 not-after-self [] = tt
 not-after-self (t ∷ ts) = (le-refl _, λ e. not-after-self ts)
-
--- strictly rising numbers
-abbrev pub RisingPeriods : List Seconds → Type 0
-RisingPeriods ts = Rising (λ (t u : Seconds). t .0 < u .0) ts
 
 earlier-head : {t u : Seconds} (ts us : List Seconds) → t .0 < u .0 → Earlier (t ∷ ts) (u ∷ us)
 earlier-head {t} {u} ts us h = record {

@@ -2,7 +2,7 @@
 -- try, and when what is had stands against the plans to come. No public contract cites this. Assumes nothing.
 use mathlib.Core.Path.{_≡_}
 use mathlib.Core.List.{List, List·Memᴰ}
-use Prim.Native.Nat.{ℕ, _+_, _≤_}
+use Prim.Native.Nat.{ℕ, _+_, _≤_, _<_}
 use Rattle.model.specs.declared.Seconds.{Seconds}
 use Rattle.model.specs.declared.Job.{Job}
 use Rattle.model.specs.Model.{load, cost, Allowed, PermittedAfter, loss, Rising, NotAfter}
@@ -13,6 +13,10 @@ use Rattle.walk.specs.Walk.{Node}
 pub record Earlier (ts us : List Seconds) : Type 0 where
   pub not-after : NotAfter ts us
   pub differ : ts ≡ us → ⊥
+
+-- Each period is below every later one.
+abbrev pub RisingPeriods : List Seconds → Type 0
+RisingPeriods ts = Rising (λ (t u : Seconds). t .0 < u .0) ts
 
 -- Each list is earlier than every later one.
 abbrev pub Sorted : List (List Seconds) → Type 0
