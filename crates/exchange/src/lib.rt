@@ -117,9 +117,9 @@ pub fn counted(c: Counted) -> u64
 pub fn result(v: Verdict) -> u64
     ensures { λ r. ⌜ r ≡ resultOf v ⌝ }
 {
-    let detail = model::detail(v);
+    let detail = refusal::detail(v);
     if 0xffff_ffff_ffff < detail {
-        return (model::number(v) as u64) * 0x1_0000_0000_0000 + 0xffff_ffff_ffff;
+        return (refusal::number(v) as u64) * 0x1_0000_0000_0000 + 0xffff_ffff_ffff;
     }
-    (model::number(v) as u64) * 0x1_0000_0000_0000 + detail
+    (refusal::number(v) as u64) * 0x1_0000_0000_0000 + detail
 }

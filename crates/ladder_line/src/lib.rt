@@ -15,8 +15,8 @@ ghost use Rattle.ladder_line.specs.Writing.{Puts, Printable};
 pub fn refusal_line(v: Verdict, text: &mut [u8; 80]) -> usize
     ensures { λ r. ⌜ Puts (now (text .entry)) 0 (refusalLine v) r (now (text .exit)) ⌝ }
 {
-    let number = model::number(v) as u64;
-    let detail = model::detail(v);
+    let number = refusal::number(v) as u64;
+    let detail = refusal::detail(v);
     let after_word = put(text, 0, b"refused");
     let after_number = put_spaced(text, after_word, number);
     let after_detail = put_spaced(text, after_number, detail);

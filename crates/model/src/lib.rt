@@ -4,7 +4,7 @@
 // Nothing is assumed, and but for `allowed` no function here has a `requires`.
 ghost use mathlib.Core.Path.{_≡_};
 ghost use Prim.Native.Nat.{_≤_};
-ghost use Rattle.model.specs.Model.{numberOf, detailOf, badInterval, badStiffness, judgeIntervalAndStiffness, judgeJob, verdictOf, countVerdict};
+ghost use Rattle.model.specs.Model.{badInterval, badStiffness, judgeIntervalAndStiffness, judgeJob, verdictOf, countVerdict};
 ghost use Rattle.model.specs.Testing.{allows};
 
 // Whole seconds: a period, or an end of a job's interval.
@@ -31,8 +31,8 @@ pub struct Profile {
     pub jobs: [Job; 8],
 }
 
-// What an operation says of its input: sound, or why it refuses. `number` and `detail` tell a refusal's number and
-// detail; where the detail is a job, a row or an amount, the variant holds it.
+// What an operation says of its input: sound, or why it refuses. A refusal's detail is what the variant holds; crate
+// `refusal` tells its number and its detail.
 pub enum Verdict {
     Sound,
     // 1 to 4: the profile as a whole.
@@ -62,50 +62,6 @@ pub const ROW_SIZE: usize = 16;
 pub struct Counted {
     pub verdict: Verdict,
     pub count: u64,
-}
-
-// The refusal's number, 0 where there is none.
-pub fn number(v: Verdict) -> u32
-    ensures { λ r. ⌜ r ≡ numberOf v ⌝ }
-{
-    match v {
-        Verdict::Sound => 0,
-        Verdict::NoBytes => 1,
-        Verdict::Edition => 2,
-        Verdict::JobCount => 3,
-        Verdict::Length => 4,
-        Verdict::Interval(_) => 5,
-        Verdict::Stiffness(_) => 6,
-        Verdict::Spare(_) => 7,
-        Verdict::Pages(_) => 8,
-        Verdict::NoPeriods => 9,
-        Verdict::Budget(_) => 10,
-        Verdict::Room(_) => 11,
-        Verdict::Row(_) => 12,
-        Verdict::Periods(_) => 13,
-    }
-}
-
-// The refusal's detail, 0 where it has none.
-pub fn detail(v: Verdict) -> u64
-    ensures { λ r. ⌜ r ≡ detailOf v ⌝ }
-{
-    match v {
-        Verdict::Sound => 0,
-        Verdict::NoBytes => 0,
-        Verdict::Edition => 0,
-        Verdict::JobCount => 0,
-        Verdict::Length => 0,
-        Verdict::Interval(k) => k as u64,
-        Verdict::Stiffness(k) => k as u64,
-        Verdict::Spare(k) => k as u64,
-        Verdict::Pages(k) => k as u64,
-        Verdict::NoPeriods => 0,
-        Verdict::Budget(b) => b.0 as u64,
-        Verdict::Room(k) => k,
-        Verdict::Row(k) => k,
-        Verdict::Periods(k) => k as u64,
-    }
 }
 
 // The verdict on a profile given as values: 3, else 5, 6 or 8 for the first bad job.
