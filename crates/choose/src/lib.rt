@@ -30,7 +30,7 @@ const NO_NEED: PagesPerHour = PagesPerHour(0xffff_ffff);
 pub fn choose(p: Profile, budget: PagesPerHour) -> Choice
     ensures { λ r. ⌜ Chosen p budget r ⌝ }
 {
-    let v = model::judge(p);
+    let v = profile_judge::judge(p);
     let Verdict::Sound = v else {
         return refusal(v);
     };

@@ -104,7 +104,7 @@ fn judge_record(r: Record, k: u32) -> Verdict
     ensures { λ v. ⌜ v ≡ judgeCut r k ⌝ }
 {
     let j = r.job;
-    let v = model::judge_interval_and_stiffness(j, k);
+    let v = profile_judge::judge_interval_and_stiffness(j, k);
     let Verdict::Sound = v else {
         return v;
     };

@@ -19,7 +19,7 @@ ghost use Rattle.profile_write.specs.Writing.{Writes};
 pub fn write_profile(p: Profile, out: &mut [u8]) -> Counted
     ensures { λ r. ⌜ Writes p (now (out .entry)) r (now (out .exit)) ⌝ }
 {
-    let v = model::judge(p);
+    let v = profile_judge::judge(p);
     let Verdict::Sound = v else {
         return Counted {
             verdict: v,

@@ -21,7 +21,7 @@ pub struct Scored {
 pub fn score(p: Profile, periods: [Seconds; 8]) -> Scored
     ensures { λ r. ⌜ Scores p periods r ⌝ }
 {
-    let v = model::judge(p);
+    let v = profile_judge::judge(p);
     let Verdict::Sound = v else {
         return Scored {
             verdict: v,

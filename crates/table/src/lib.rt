@@ -24,7 +24,7 @@ const GREATEST_BUDGET: PagesPerHour = PagesPerHour(0xffff_ffff);
 pub fn build_table(p: Profile, out: &mut [u8]) -> Counted
     ensures { λ r. ⌜ Built p (now (out .entry)) r (now (out .exit)) ⌝ }
 {
-    let v = model::judge(p);
+    let v = profile_judge::judge(p);
     let Verdict::Sound = v else {
         return Counted {
             verdict: v,

@@ -47,7 +47,7 @@ pub fn locate(p: Profile, table: &[u8], budget: PagesPerHour) -> Counted
 pub fn judge_lookup(p: Profile, table: &[u8], budget: PagesPerHour) -> Verdict
     ensures { λ r. ⌜ JudgesLookup p (now (table .entry)) budget r ⌝ }
 {
-    let v = model::judge(p);
+    let v = profile_judge::judge(p);
     let Verdict::Sound = v else {
         return v;
     };

@@ -17,7 +17,7 @@ ghost use Rattle.zones.specs.ZoneRows.{RowNumbers, highWord, lowWord, Wr
 pub fn list_zones(p: Profile, out: &mut [u8]) -> Counted
     ensures { λ r. ⌜ Listed p (now (out .entry)) r (now (out .exit)) ⌝ }
 {
-    let v = model::judge(p);
+    let v = profile_judge::judge(p);
     let Verdict::Sound = v else {
         return Counted {
             verdict: v,

@@ -1,13 +1,13 @@
--- `model::judge_job` meets its contract: the shared tests come first, and each further test is a step of the definition.
+-- `profile_judge::judge_job` meets its contract: the shared tests come first, and each further test is a step of the definition.
 -- Assumes nothing.
 use borrow.Author.Needs.{needs}
 use borrow.Author.Tests.{lt-ltb, le-ltb}
 use mathlib.Core.Path.{_≡_}
 use Rattle.model.specs.declared.Verdict.{Verdict}
 use Rattle.model.specs.Model.{judgeJob, judgeIntervalAndStiffness, refuseIf, orElse}
 use Rattle.model.proofs.Verdicts.{sound-passes, refused-stays}
-use Rattle.model.proofs.judge_job.Statement.{statement}
-use Rattle.model.proofs.judge_job.Tie as tie
+use Rattle.profile_judge.proofs.judge_job.Statement.{statement}
+use Rattle.profile_judge.proofs.judge_job.Tie as tie
 
 judge-interval-and-stiffness-requires : tie.Need-judge-interval-and-stiffness-requires
 judge-interval-and-stiffness-requires c κs = search needs

@@ -1,10 +1,10 @@
--- `model::judge_interval_and_stiffness` meets its contract: each test that was passed is a step of the definition.
+-- `profile_judge::judge_interval_and_stiffness` meets its contract: each test that was passed is a step of the definition.
 -- Assumes nothing.
 use mathlib.Core.Path.{_∙_, sym}
 use borrow.Author.Needs.{needs}
 use Rattle.model.specs.Model.{judgeIntervalAndStiffness, refuseIf}
-use Rattle.model.proofs.judge_interval_and_stiffness.Statement.{statement}
-use Rattle.model.proofs.judge_interval_and_stiffness.Tie as tie
+use Rattle.profile_judge.proofs.judge_interval_and_stiffness.Statement.{statement}
+use Rattle.profile_judge.proofs.judge_interval_and_stiffness.Tie as tie
 
 bad-interval-requires : tie.Need-bad-interval-requires
 bad-interval-requires c κs = search needs

@@ -1,4 +1,4 @@
--- `model::judge` meets its contract: before each turn the verdict is that of the jobs from the k-th on.
+-- `profile_judge::judge` meets its contract: before each turn the verdict is that of the jobs from the k-th on.
 -- Assumes nothing.
 use Prim.Native.Nat.{_+_, _≤_, _-_}
 use lib.ListN.{getD}
@@ -7,10 +7,10 @@ use native.Mathlib.Nat.{sub-zero}
 use native.Mathlib.Omega.{arith}
 use borrow.Author.Needs.{needs}
 use borrow.Author.Tests.{lt-ltb, le-ltb, eq-eqb, ne-eqb}
 use Rattle.model.specs.Model.{verdictOf, refuseIf, orElse, firstRefused, judgeJob, entries, noJob}
 use Rattle.model.proofs.Verdicts.{sound-passes, refused-stays, one-judged, all-judged}
-use Rattle.model.proofs.judge.Statement.{statement}
-use Rattle.model.proofs.judge.Tie as tie
+use Rattle.profile_judge.proofs.judge.Statement.{statement}
+use Rattle.profile_judge.proofs.judge.Tie as tie
 
 abbrev Inv-loop : tie.InvT-loop
 Inv-loop p n k₀ k = (k ≤ n) × (verdictOf p ≡ firstRefused judgeJob k (entries noJob (p .jobs) k (n - k)))
