@@ -1,2 +1,1 @@
 pub mod HandedBack
-pub mod Stores

@@ -1,17 +1,15 @@
-// Profiles, answers and verdicts as the numbers that C lends and gets.
+// Profiles and periods out of the numbers that C lends, and verdicts as the numbers that it gets.
 //
-// specs/Numbers.antt says which numbers stand for what. These functions serve the planner's functions for C, which meet what
-// is required. Nothing is assumed.
+// specs/Numbers.antt says which numbers stand for what, those that `exchange_put` stores among them. These functions serve the
+// planner's functions for C, which meet what is required. Nothing is assumed.
 use model::Counted;
 use model::Job;
-use model::PagesPerHour;
 use model::Profile;
 use model::Seconds;
 use model::Verdict;
 ghost use mathlib.Core.Path.{_≡_};
 ghost use Prim.Native.Nat.{_<_};
-ghost use lib.Seq.{sets};
-ghost use Rattle.exchange.specs.Numbers.{resultOf, countedOf, jobIn, profileIn, jobNumbers, numbersOf, eightPeriodsIn, answerOf};
+ghost use Rattle.exchange.specs.Numbers.{resultOf, countedOf, jobIn, profileIn, eightPeriodsIn};
 
 // A profile from n and 40 numbers.
 pub fn profile(n: u32, jobs: &[u32; 40]) -> Profile
@@ -60,43 +58,6 @@ pub fn as_periods(periods: &[u32; 8]) -> [Seconds; 8]
         Seconds(periods[6]),
         Seconds(periods[7]),
     ]
-}
-
-// n and eight jobs into 41 numbers.
-pub fn put_values(p: Profile, values: &mut [u32; 41])
-    ensures { λ _. ⌜ now (values .exit) ≡ sets (now (values .entry)) 0 (numbersOf p) ⌝ }
-{
-    values[0] = p.n;
-    let mut i: usize = 0;
-    while i < 8 {
-        put_job(p.jobs[i], values, 1 + 5 * i);
-        i += 1;
-    }
-}
-
-// A job's five numbers from `at` on.
-pub fn put_job(j: Job, values: &mut [u32; 41], at: usize)
-    requires { ⌜ at < 37 ⌝ }
-    ensures { λ _. ⌜ now (values .exit) ≡ sets (now (values .entry)) at (jobNumbers j) ⌝ }
-{
-    values[at] = j.lo.0;
-    values[at + 1] = j.hi.0;
-    values[at + 2] = j.data;
-    values[at + 3] = j.metadata;
-    values[at + 4] = j.stiffness;
-}
-
-// Need, loss and eight periods into ten numbers.
-pub fn put_answer(need: PagesPerHour, loss: u64, periods: [Seconds; 8], answer: &mut [u64; 10])
-    ensures { λ _. ⌜ now (answer .exit) ≡ sets (now (answer .entry)) 0 (answerOf need loss periods) ⌝ }
-{
-    answer[0] = need.0 as u64;
-    answer[1] = loss;
-    let mut k: usize = 0;
-    while k < 8 {
-        answer[2 + k] = model::wide(periods[k]);
-        k += 1;
-    }
 }
 
 // A count, or the refusal beside which it is 0, as one number.

@@ -46,7 +46,7 @@ pub extern "C" fn charopleth_read(bytes: &[u8], values: &mut [u32; 41]) -> u64
         return exchange::result(v);
     };
     let p = r.profile;
-    exchange::put_values(p, values);
+    exchange_put::put_values(p, values);
     0
 }
 
@@ -95,7 +95,7 @@ pub extern "C" fn charopleth_choose(
         return exchange::result(v);
     };
     let periods = c.periods;
-    exchange::put_answer(c.need, c.loss, periods, answer);
+    exchange_put::put_answer(c.need, c.loss, periods, answer);
     0
 }
 

@@ -1,4 +1,4 @@
--- `exchange::put_answer` meets its contract: need and loss, then before each turn the periods from the k-th on are left to store.
+-- `exchange_put::put_answer` meets its contract: need and loss, then before each turn the periods from the k-th on are left to store.
 -- Assumes nothing.
 use mathlib.Core.Path.{refl, ap}
 use mathlib.Core.List.{List, [], _∷_, map}
@@ -8,12 +8,12 @@ use lib.Seq.{sets}
 use Rattle.model.specs.declared.Seconds.{Seconds}
 use Rattle.model.specs.Model.{seconds, entries}
 use Rattle.model.proofs.Entries.{entries-step, entries-end}
 use Rattle.exchange.specs.Numbers.{answerOf}
-use Rattle.exchange.proofs.Stores.{Completes, run-stored, all-stored}
+use Rattle.exchange_put.proofs.Stores.{Completes, run-stored, all-stored}
 use native.Mathlib.Omega.{arith}
 use borrow.Author.Needs.{needs}
-use Rattle.exchange.proofs.put_answer.Statement.{statement}
-use Rattle.exchange.proofs.put_answer.Tie as tie
+use Rattle.exchange_put.proofs.put_answer.Statement.{statement}
+use Rattle.exchange_put.proofs.put_answer.Tie as tie
 
 -- the periods from the k-th on, as numbers
 abbrev left : List Seconds → ℕ → List ℕ

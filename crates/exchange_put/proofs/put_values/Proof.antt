@@ -1,4 +1,4 @@
--- `exchange::put_values` meets its contract: n, then before each turn the jobs from the i-th on are left to store.
+-- `exchange_put::put_values` meets its contract: n, then before each turn the jobs from the i-th on are left to store.
 -- Assumes nothing.
 use mathlib.Core.Path.{refl, ap}
 use mathlib.Core.List.{List, flatMap}
@@ -8,12 +8,12 @@ use lib.Seq.{sets}
 use Rattle.model.specs.declared.Job.{Job}
 use Rattle.model.specs.Model.{noJob, entries}
 use Rattle.model.proofs.Entries.{entries-step, entries-end}
 use Rattle.exchange.specs.Numbers.{jobNumbers, jobsNumbers, numbersOf}
-use Rattle.exchange.proofs.Stores.{Completes, run-stored, all-stored}
+use Rattle.exchange_put.proofs.Stores.{Completes, run-stored, all-stored}
 use native.Mathlib.Omega.{arith}
 use borrow.Author.Needs.{needs}
-use Rattle.exchange.proofs.put_values.Statement.{statement}
-use Rattle.exchange.proofs.put_values.Tie as tie
+use Rattle.exchange_put.proofs.put_values.Statement.{statement}
+use Rattle.exchange_put.proofs.put_values.Tie as tie
 
 -- the numbers of the jobs from the i-th on
 abbrev left : List Job → ℕ → List ℕ

@@ -1,10 +1,10 @@
--- `exchange::put_job` meets its contract: five stores, one behind the other.
+-- `exchange_put::put_job` meets its contract: five stores, one behind the other.
 -- Assumes nothing.
 use mathlib.Core.Path.{refl}
 use native.Mathlib.Numerals.{unary-clauses}
 use borrow.Author.Needs.{needs}
-use Rattle.exchange.proofs.put_job.Statement.{statement}
-use Rattle.exchange.proofs.put_job.Tie as tie
+use Rattle.exchange_put.proofs.put_job.Statement.{statement}
+use Rattle.exchange_put.proofs.put_job.Tie as tie
 
 mul-values : tie.Need-mul-values
 mul-values c = search needs
