@@ -5,8 +5,8 @@
 use model::PagesPerHour;
 use model::Profile;
 use model::Seconds;
-use table_stairs::BOUND;
-use table_stairs::COUNT;
+use table_enter::BOUND;
+use table_enter::COUNT;
 ghost use mathlib.Core.Path.{_≡_};
 ghost use lib.ListN.{length};
 ghost use Rattle.model.specs.Valid.{Valid};
@@ -97,7 +97,7 @@ fn find_stairs(
     ensures { λ _. ⌜ Climbs (now (spans .entry)) (now (pages .entry)) (now (rates .entry)) (now (stiffnesses .entry)) i n budget step written lost (now (periods .entry)) (now (periods .exit)) (now (rows .entry)) (now (rows .exit)) (now (marks .entry)) (now (marks .exit)) ⌝ }
 {
     if i == n {
-        table_stairs::enter_plan(n, budget, step, written, lost, periods, rows, marks);
+        table_enter::enter_plan(n, budget, step, written, lost, periods, rows, marks);
         return;
     }
     let tries = walk::to_try(spans, i, step);
@@ -114,7 +114,7 @@ fn find_stairs(
             continue;
         }
         let more = step::carry(written, step, t, pages[i]);
-        if table_stairs::may_enter(spans, rates, i + 1, n, budget, t, more, floor, rows, marks) {
+        if table_enter::may_enter(spans, rates, i + 1, n, budget, t, more, floor, rows, marks) {
             periods[i] = t.0;
             find_stairs(
                 spans,

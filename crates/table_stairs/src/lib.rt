@@ -1,137 +1,22 @@
-// A staircase of plans in rising loss and falling need, at most 256 of them: whether a plan may enter, and how it does.
+// A staircase of plans in rising loss and falling need, at most 256 of them: its rows searched, moved and stored.
 //
-// specs/Stairs.antt says what is kept, specs/Rows.antt how that stands in an array. They serve other crates of the planner,
-// and their callers meet what is required. Nothing is assumed.
+// specs/Stairs.antt says what is kept, specs/Rows.antt how that stands in an array, and what `table_enter` promises of it. They
+// serve other crates of the planner, and their callers meet what is required. Nothing is assumed.
 use model::PagesPerHour;
-use model::Seconds;
 ghost use mathlib.Core.Path.{_≡_};
-ghost use mathlib.Core.Bool.{false};
 ghost use Prim.Native.Nat.{_≤_, _<_};
-ghost use lib.ListN.{length, getD};
-ghost use Rattle.step.specs.Step.{NeedFits};
-ghost use Rattle.walk.specs.Steps.{ReadyForCut};
+ghost use lib.ListN.{length};
 ghost use Rattle.table_stairs.specs.Stairs.{noBound};
-ghost use Rattle.table_stairs.specs.Rows.{Periods, Rises, LosesLess, PlacesRise, PlacesLoseLess, Covers, NeedsLess, Moved, Stored, Place, Standing, PutsStair, Enters, EntersNothing};
+ghost use Rattle.table_stairs.specs.Rows.{Periods, Rises, LosesLess, PlacesRise, PlacesLoseLess, Covers, NeedsLess, Moved, Stored};
 
 // Where a row has its loss, behind its two words.
 const LOSS_PLACE: usize = 2;
 
-// The greatest number of rows, and where the last of them has its loss.
-const MOST: usize = 256;
-
-const LAST_LOSS: usize = 767;
-
 // Rows are counted in blocks of so many.
 const BLOCK: usize = 16;
 
-// The marks: how many rows there are, and the bound on the loss of what may still enter.
-pub const COUNT: usize = 0;
-
-pub const BOUND: usize = 1;
-
-// Whether a plan that begins so could enter: jobs i to n are still to come, and the loss is at least `floor`.
-pub fn may_enter(
-    spans: &[u32; 16],
-    rates: &[u32; 17],
-    i: usize,
-    n: usize,
-    budget: PagesPerHour,
-    t: Seconds,
-    written: u64,
-    floor: u64,
-    rows: &[u64; 768],
-    marks: &[u64; 2],
-) -> bool
-    requires { ⌜ ReadyForCut (now spans) (now rates) i n t written ⌝ }
-    requires { ⌜ floor < noBound ⌝ }
-    requires { ⌜ getD (now marks) 0 0 ≤ 256 ⌝ }
-    requires { ⌜ Rises (getD (now marks) 0 0) (now rows) ⌝ }
-    ensures { λ r. ⌜ (r ≡ false → EntersNothing (now (spans .entry)) (now (rates .entry)) i n budget t written floor (now (rows .entry)) (now (marks .entry))) ⌝ }
-{
-    let need_floor = walk::need_floor(rates, i, t, written);
-    if budget.0 < need_floor.0 {
-        return false;
-    }
-    let count = marks[COUNT] as usize;
-    if covers(rows, count, need_floor, floor) {
-        return false;
-    }
-    walk::reaches(spans, i, n, t)
-}
-
-// One whole plan: it enters if it fits the budget, loses less than the bound, and no row covers it.
-pub fn enter_plan(
-    n: usize,
-    budget: PagesPerHour,
-    t: Seconds,
-    written: u64,
-    lost: u64,
-    periods: &[u32; 8],
-    rows: &mut [u64; 768],
-    marks: &mut [u64; 2],
-)
-    requires { ⌜ NeedFits written t ⌝ }
-    requires { ⌜ lost < noBound ⌝ }
-    requires { ⌜ Standing n (now periods) (now rows) (now marks) ⌝ }
-    ensures { λ _. ⌜ Enters n budget t written lost (now (periods .entry)) (now (rows .entry)) (now (marks .entry)) (now (rows .exit)) (now (marks .exit)) ⌝ }
-{
-    let need = step::need_of(written, t);
-    if budget.0 < need.0 {
-        return;
-    }
-    if marks[BOUND] <= lost {
-        return;
-    }
-    let count = marks[COUNT] as usize;
-    if covers(rows, count, need, lost) {
-        return;
-    }
-    let i = losing_less(rows, count, lost);
-    let j = needing_less(rows, i, count, need);
-    put_plan(n, need, lost, periods, i, j, rows, marks);
-}
-
-// A plan becomes the row at place i, where the rows from there to place j leave. Of too many rows the last one leaves, and
-// its loss becomes the bound.
-fn put_plan(
-    n: usize,
-    need: PagesPerHour,
-    loss: u64,
-    periods: &[u32; 8],
-    i: usize,
-    j: usize,
-    rows: &mut [u64; 768],
-    marks: &mut [u64; 2],
-)
-    requires { ⌜ Standing n (now periods) (now rows) (now marks) ⌝ }
-    requires { ⌜ Place (getD (now marks) 0 0) (now rows) (need .0) loss i j ⌝ }
-    requires { ⌜ loss < getD (now marks) 1 0 ⌝ }
-    ensures { λ _. ⌜ PutsStair n (need .0) loss i j (now (periods .entry)) (now (rows .entry)) (now (marks .entry)) (now (rows .exit)) (now (marks .exit)) ⌝ }
-{
-    let count = marks[COUNT] as usize;
-    if i < j {
-        close_gap(rows, i, j, count);
-        store_row(need, loss, periods, i, rows);
-        marks[COUNT] = (i + 1 + (count - j)) as u64;
-        return;
-    }
-    if count < MOST {
-        open_gap(rows, i, count);
-        store_row(need, loss, periods, i, rows);
-        marks[COUNT] = (count + 1) as u64;
-        return;
-    }
-    if i == MOST {
-        marks[BOUND] = loss;
-        return;
-    }
-    marks[BOUND] = rows[LAST_LOSS];
-    open_gap(rows, i, MOST - 1);
-    store_row(need, loss, periods, i, rows);
-}
-
 // Whether some row has at most this need and at most this loss: the last that loses no more needs least of those.
-fn covers(rows: &[u64; 768], count: usize, need: PagesPerHour, loss: u64) -> bool
+pub fn covers(rows: &[u64; 768], count: usize, need: PagesPerHour, loss: u64) -> bool
     requires { ⌜ count ≤ 256 ⌝ }
     requires { ⌜ loss < noBound ⌝ }
     requires { ⌜ Rises count (now rows) ⌝ }
@@ -150,7 +35,7 @@ fn covers(rows: &[u64; 768], count: usize, need: PagesPerHour, loss: u64) -> boo
 
 // How many rows lose less than `loss`, where rows rise in loss: first of the last rows of whole blocks, then within the block
 // that is left. No branch depends on a loss, as each step of a search by halves would, and be foretold wrongly half the time.
-fn losing_less(rows: &[u64; 768], count: usize, loss: u64) -> usize
+pub fn losing_less(rows: &[u64; 768], count: usize, loss: u64) -> usize
     requires { ⌜ count ≤ 256 ⌝ }
     requires { ⌜ Rises count (now rows) ⌝ }
     ensures { λ r. ⌜ LosesLess (now (rows .entry)) count loss r ⌝ }
@@ -185,7 +70,7 @@ fn places_losing_less(
 }
 
 // The first row from place i on that needs less.
-fn needing_less(rows: &[u64; 768], i: usize, count: usize, need: PagesPerHour) -> usize
+pub fn needing_less(rows: &[u64; 768], i: usize, count: usize, need: PagesPerHour) -> usize
     requires { ⌜ i ≤ count ⌝ }
     requires { ⌜ count ≤ 256 ⌝ }
     ensures { λ r. ⌜ NeedsLess (now (rows .entry)) i count (need .0) r ⌝ }
@@ -201,7 +86,7 @@ fn needing_less(rows: &[u64; 768], i: usize, count: usize, need: PagesPerHour) -
 }
 
 // The rows from place i to place e move up by one place.
-fn open_gap(rows: &mut [u64; 768], i: usize, e: usize)
+pub fn open_gap(rows: &mut [u64; 768], i: usize, e: usize)
     requires { ⌜ length (now rows) ≡ 768 ⌝ }
     requires { ⌜ i ≤ e ⌝ }
     requires { ⌜ e < 256 ⌝ }
@@ -217,7 +102,7 @@ fn open_gap(rows: &mut [u64; 768], i: usize, e: usize)
 }
 
 // The rows from place j to place e move down, to behind place i.
-fn close_gap(rows: &mut [u64; 768], i: usize, j: usize, e: usize)
+pub fn close_gap(rows: &mut [u64; 768], i: usize, j: usize, e: usize)
     requires { ⌜ length (now rows) ≡ 768 ⌝ }
     requires { ⌜ i < j ⌝ }
     requires { ⌜ j ≤ e ⌝ }
@@ -239,7 +124,7 @@ fn close_gap(rows: &mut [u64; 768], i: usize, j: usize, e: usize)
 }
 
 // A plan becomes the row at place i.
-fn store_row(need: PagesPerHour, loss: u64, periods: &[u32; 8], i: usize, rows: &mut [u64; 768])
+pub fn store_row(need: PagesPerHour, loss: u64, periods: &[u32; 8], i: usize, rows: &mut [u64; 768])
     requires { ⌜ Periods (now periods) ⌝ }
     requires { ⌜ i < 256 ⌝ }
     requires { ⌜ length (now rows) ≡ 768 ⌝ }

@@ -17,8 +17,8 @@ use borrow.Fn.PlainCycle.{Measures, is, falls, and}
 use Rattle.table_climb.proofs.find_stairs.Reads as find-stairs
 use Rattle.table_climb.proofs.find_stairs.Kinds as find-stairs-kinds
 use Rattle.table_climb.proofs.+find_stairs.Lts-find_stairs as find-stairs-lts
-use Rattle.table_stairs.proofs.enter_plan.Reads as enter-plan-reads
-use Rattle.table_stairs.proofs.may_enter.Reads as may-enter-reads
+use Rattle.table_enter.proofs.enter_plan.Reads as enter-plan-reads
+use Rattle.table_enter.proofs.may_enter.Reads as may-enter-reads
 use Rattle.step.proofs.carry.Reads as carry-reads
 use Rattle.walk.proofs.loss_floor.Reads as loss-floor-reads
 use Rattle.walk.proofs.lost_with.Reads as lost-with-reads

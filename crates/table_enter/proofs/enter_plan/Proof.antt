@@ -1,12 +1,12 @@
--- `table_stairs::enter_plan` meets its contract: each way out is one case of the update.
+-- `table_enter::enter_plan` meets its contract: each way out is one case of the update.
 -- Assumes nothing.
 use mathlib.Core.Path.{ap}
 use native.Mathlib.Omega.{arith}
 use Rattle.model.specs.declared.PagesPerHour.{PagesPerHour}
 use Rattle.table_stairs.proofs.Entering.{placed, enters-over, enters-bound, enters-covered, enters-new}
 use borrow.Author.Needs.{needs}
-use Rattle.table_stairs.proofs.enter_plan.Statement.{statement}
-use Rattle.table_stairs.proofs.enter_plan.Tie as tie
+use Rattle.table_enter.proofs.enter_plan.Statement.{statement}
+use Rattle.table_enter.proofs.enter_plan.Tie as tie
 
 need-of-requires : tie.Need-need-of-requires
 need-of-requires c κs = search needs

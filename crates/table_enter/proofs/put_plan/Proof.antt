@@ -1,13 +1,13 @@
--- `table_stairs::put_plan` meets its contract: rows leave, or move up, or the last of too many leaves.
+-- `table_enter::put_plan` meets its contract: rows leave, or move up, or the last of too many leaves.
 -- Assumes nothing.
 use mathlib.Core.Path.{refl}
 use Prim.Native.Nat.{_≤_}
 use lib.ListN.{getD}
 use native.Mathlib.Omega.{arith}
 use Rattle.table_stairs.proofs.Putting.{puts-within, puts-more, puts-crowded, puts-past}
 use borrow.Author.Needs.{needs}
-use Rattle.table_stairs.proofs.put_plan.Statement.{statement}
-use Rattle.table_stairs.proofs.put_plan.Tie as tie
+use Rattle.table_enter.proofs.put_plan.Statement.{statement}
+use Rattle.table_enter.proofs.put_plan.Tie as tie
 
 element-copy-out-count : tie.Need-element-copy-out-count
 element-copy-out-count c = search needs

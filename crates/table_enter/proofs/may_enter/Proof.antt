@@ -1,13 +1,13 @@
--- `table_stairs::may_enter` meets its contract: where it says no, the need floor, a row or an interval out of reach shows that nothing enters.
+-- `table_enter::may_enter` meets its contract: where it says no, the need floor, a row or an interval out of reach shows that nothing enters.
 -- Assumes nothing.
 use mathlib.Core.Path.{ap}
 use native.Mathlib.Omega.{arith}
 use Rattle.model.specs.declared.PagesPerHour.{PagesPerHour}
 use Rattle.walk.proofs.Cuts.{ready-floor, ready-ends}
 use Rattle.table_stairs.proofs.Cuts.{over-enters-nothing, covered-enters-nothing, unreached-enters-nothing}
 use borrow.Author.Needs.{needs}
-use Rattle.table_stairs.proofs.may_enter.Statement.{statement}
-use Rattle.table_stairs.proofs.may_enter.Tie as tie
+use Rattle.table_enter.proofs.may_enter.Statement.{statement}
+use Rattle.table_enter.proofs.may_enter.Tie as tie
 
 need-floor-requires : tie.Need-need-floor-requires
 need-floor-requires c κs = ready-floor (c .pre .0 .ready)
