@@ -1,8 +1,6 @@
 -- `table_enter::put_plan` meets its contract: rows leave, or move up, or the last of too many leaves.
 -- Assumes nothing.
 use mathlib.Core.Path.{refl}
-use Prim.Native.Nat.{_≤_}
-use lib.ListN.{getD}
 use native.Mathlib.Omega.{arith}
 use Rattle.table_stairs.proofs.Putting.{puts-within, puts-more, puts-crowded, puts-past}
 use borrow.Author.Needs.{needs}
@@ -32,10 +30,12 @@ element-write-marks c = search needs
 
 returns : tie.Need-returns
 returns c =
-    let p = c .before .before .before .before .before .before .pre in
-    let order : getD (c .before .before .before .before .before .before .args .marks .now) 0 0 ≤ 256 = p .0 .count-to in
+    let closed = c .before .before in
+    let leaving = closed .before .before in
+    let p = leaving .before .before .pre in
+    let most = p .0 .count-to in
     let upto = p .1 .0 .upto in
-    puts-within (p .0) (p .1 .0) (p .1 .1) (omega (arith, c .before .before .before .before .if1 .taken)) refl (c .before .before .close-gap .ensures) (c .store-row .ensures)
+    puts-within (p .0) (p .1 .0) (p .1 .1) (omega (arith, leaving .if1 .taken)) refl (closed .close-gap .ensures) (c .store-row .ensures)
 
 open-gap-requires : tie.Need-open-gap-requires
 open-gap-requires c κs = search needs
@@ -51,19 +51,24 @@ element-write-marks-2 c = search needs
 
 returns-2 : tie.Need-returns-2
 returns-2 c =
-    let p = c .before .before .before .before .before .before .before .pre in
+    let opened = c .before .before in
+    let room = opened .before .before in
+    let staying = room .before in
+    let p = staying .before .before .pre in
     let order = p .1 .0 .order in
-    puts-more (p .0) (p .1 .0) (p .1 .1) (omega (arith, c .before .before .before .before .before .if1 .left)) (c .before .before .before .before .if2 .taken) (c .before .before .open-gap .ensures) (c .store-row2 .ensures)
+    puts-more (p .0) (p .1 .0) (p .1 .1) (omega (arith, staying .if1 .left)) (room .if2 .taken) (opened .open-gap .ensures) (c .store-row2 .ensures)
 
 element-write-marks-3 : tie.Need-element-write-marks-3
 element-write-marks-3 c = search needs
 
 returns-3 : tie.Need-returns-3
 returns-3 c =
-    let p = c .before .before .before .before .pre in
+    let full = c .before in
+    let staying = full .before in
+    let p = staying .before .before .pre in
     let order = p .1 .0 .order in
     let most = p .0 .count-to in
-    puts-past (p .0) (p .1 .0) (p .1 .1) (omega (arith, c .before .if2 .left)) (omega (arith, c .before .before .if1 .left)) (c .if3 .taken)
+    puts-past (p .0) (p .1 .0) (p .1 .1) (omega (arith, full .if2 .left)) (omega (arith, staying .if1 .left)) (c .if3 .taken)
 
 element-copy-out-marks : tie.Need-element-copy-out-marks
 element-copy-out-marks c = search needs
@@ -82,12 +87,16 @@ store-row-requires-3 c κs = search needs
 
 returns-4 : tie.Need-returns-4
 returns-4 c =
-    let p = c .before .before .before .before .before .before .before .before .before .pre in
+    let opened = c .before .before in
+    let inside = opened .before .before .before in
+    let full = inside .before in
+    let staying = full .before in
+    let p = staying .before .before .pre in
     let order = p .1 .0 .order in
     let upto = p .1 .0 .upto in
     let most = p .0 .count-to in
-    let apart = c .before .before .before .before .before .if3 .left in
-    puts-crowded (p .0) (p .1 .0) (p .1 .1) (omega (arith, c .before .before .before .before .before .before .if2 .left)) (omega (arith, c .before .before .before .before .before .before .before .if1 .left)) (omega arith) (c .before .before .open-gap2 .ensures) (c .store-row3 .ensures)
+    let apart = inside .if3 .left in
+    puts-crowded (p .0) (p .1 .0) (p .1 .1) (omega (arith, full .if2 .left)) (omega (arith, staying .if1 .left)) (omega arith) (opened .open-gap2 .ensures) (c .store-row3 .ensures)
 
 pub put-plan-spec : {M : Type 1} → statement M
 put-plan-spec =
