@@ -5,9 +5,10 @@ use mathlib.Core.Logic.{_⊎_, ⊎-elim}
 use mathlib.Core.List.{List}
 use Prim.Native.Nat.{ℕ, _+_, _*_, _-_, _/_, _≤_, _<_}
 use native.Mathlib.Omega.{arith}
-use native.Mathlib.Nat.{le-refl, mul-add, mul-one, mul-le-mul-left}
+use native.Mathlib.Nat.{mul-le-mul-left}
 use native.Mathlib.Decide.{ℕ-discrete}
 use Rattle.table_stairs.specs.Rows.{most, lossIn, Rises, LosesLess, PlacesRise, PlacesLoseLess}
+use Rattle.table_stairs.proofs.Rows.{loss-up}
 
 module _ {flat : List ℕ} {first step times l : ℕ} (rise : PlacesRise first step times flat) where
   -- one row more, which loses less: so did all before it
@@ -31,21 +32,15 @@ module _ {flat : List ℕ} {first step times l : ℕ} (rise : PlacesRise first s
       go h (no ne) = here .no-less (omega (arith, ne, h))
 
 -- rows of a staircase at rising places
-pub places-rise : {flat : List ℕ} {k first step times : ℕ} → Rises k flat → k ≤ most → 1 ≤ step → ((x : ℕ) → x < times → first + step * x < k) → PlacesRise first step times flat
-places-rise {flat} {k} {first} {step} {times} rises few step-from inside = record { within = λ x at. omega (arith, inside x at, few); rise = λ x y to at. go x y at (ℕ-discrete x y) to }
-  where
-    go : (x y : ℕ) → y < times → Dec (x ≡ y) → x ≤ y → lossIn flat (first + step * x) ≤ lossIn flat (first + step * y)
-    go x y at (yes e) to = rw e (le-refl _)
-    go x y at (no ne) to =
-        let further : x + 1 ≤ y = omega (arith, ne, to) in
-        let steps : step * (x + 1) ≤ step * y = mul-le-mul-left step further in
-        let apart : step * (x + 1) ≡ step * x + step * 1 = mul-add step x 1 in
-        let one : step * 1 ≡ step = mul-one step in
-        let less = (rises .loss-rises (first + step * x) (first + step * y) (omega (arith, step-from, steps, apart, one)) (inside y at)) in
-        omega (arith, less)
+pub places-rise : {flat : List ℕ} {k first step times : ℕ} → Rises k flat → k ≤ most → ((x : ℕ) → x < times → first + step * x < k) → PlacesRise first step times flat
+places-rise {flat} {k} {first} {step} {times} rises few inside = record {
+  within = λ x at. omega (arith, inside x at, few);
+  rise = λ x y to at. loss-up rises (first + step * x) (first + step * y) (omega (arith, mul-le-mul-left step to)) (inside y at);
+}
 
 -- the last rows of whole blocks of sixteen, and then the block that is left
-pub block-less : {flat : List ℕ} {k l b r rest : ℕ} → PlacesLoseLess flat 15 16 (k / 16) l b → 16 * b + rest ≤ k → (rest ≡ 16) ⊎ (16 * b + rest ≡ k) → PlacesLoseLess flat (16 * b) 1 rest l r → LosesLess flat k l (16 * b + r)
+pub block-less : {flat : List ℕ} {k l b r rest : ℕ} → PlacesLoseLess flat 15 16 (k / 16) l b → 16 * b + rest ≤ k → (rest ≡ 16) ⊎ (16 * b + rest ≡ k) → PlacesLoseLess flat (16 * b) 1 rest l r →
+    LosesLess flat k l (16 * b + r)
 block-less {flat} {k} {l} {b} {r} {rest} blocks fits size inside = record {
   upto = omega (arith, fits, inside .upto);
   less = λ some. before some (ℕ-discrete r 0);

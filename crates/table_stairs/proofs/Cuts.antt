@@ -15,21 +15,20 @@ use Rattle.walk.proofs.Cuts.{floors-cut, reach-cut}
 use Rattle.table_stairs.specs.Stairs.{enter}
 use Rattle.table_stairs.specs.Rows.{most, stairsOf, Covers, EntersNothing}
 use Rattle.table_stairs.proofs.Updates.{keeps-over, keeps-covered}
-use Rattle.table_stairs.proofs.Entering.{row-covers}
+use Rattle.table_stairs.proofs.Entering.{rows-cover}
 
 module _ {spans rates : List ℕ} {i n : ℕ} {t : Seconds} {written : ℕ} (r : ReadyForCut spans rates i n t written) (b : PagesPerHour) (floor : ℕ) (flat marks : List ℕ) where
-  -- the need floor is over the budget
-  pub over-enters-nothing : b .0 < needAt written t + getD rates (8 + i) 0 → EntersNothing spans rates i n b t written floor flat marks
-  over-enters-nothing over = floors-cut (enter most (b .0)) (stairsOf n flat marks) r floor (needAt written t + getD rates (8 + i) 0) 0 (le-refl _) zero-le (keeps-over most (b .0) (stairsOf n flat marks) over)
+  -- the need floor, as the code has it
+  module _ {q : ℕ} (is : q ≡ needAt written t + getD rates (8 + i) 0) where
+    -- it is over the budget
+    pub over-enters-nothing : b .0 < q → EntersNothing spans rates i n b t written floor flat marks
+    over-enters-nothing over = floors-cut (enter most (b .0)) (stairsOf n flat marks) r floor q 0 (omega arith) zero-le (keeps-over most (b .0) (stairsOf n flat marks) over)
 
-  -- some row covers the floors
-  pub covered-enters-nothing : {q : ℕ} {c : Bool} → q ≡ needAt written t + getD rates (8 + i) 0 → Covers flat (getD marks 0 0) q floor c → c ≡ true → EntersNothing spans rates i n b t written floor flat marks
-  covered-enters-nothing {q} is c old =
-      let a = c .some old in
-      let to = a .1 in
-      let needs = a .2 in
-      floors-cut (enter most (b .0)) (stairsOf n flat marks) r floor (needAt written t + getD rates (8 + i) 0) floor (le-refl _) (le-refl _)
-      (keeps-covered most (b .0) (stairsOf n flat marks) (needAt written t + getD rates (8 + i) 0) floor (row-covers n flat (needAt written t + getD rates (8 + i) 0) floor 0 (getD marks 0 0) (a .0) zero-le (omega arith) (omega arith) (a .3)))
+    -- some row covers the floors
+    pub covered-enters-nothing : {c : Bool} → Covers flat (getD marks 0 0) q floor c → c ≡ true → EntersNothing spans rates i n b t written floor flat marks
+    covered-enters-nothing c old =
+        let keeps = keeps-covered most (b .0) (stairsOf n flat marks) q floor (rows-cover n flat q floor c old) in
+        floors-cut (enter most (b .0)) (stairsOf n flat marks) r floor q floor (omega arith) (le-refl _) keeps
 
   -- a later interval holds no multiple
   pub unreached-enters-nothing : Unreached spans i n t → EntersNothing spans rates i n b t written floor flat marks

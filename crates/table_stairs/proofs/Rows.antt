@@ -4,7 +4,8 @@ use mathlib.Core.Path.{_≡_, refl, sym, _∙_, ap, ap₂, subst}
 use mathlib.Core.List.{List, _∷_, _++_}
 use Prim.Native.Nat.{ℕ, zero, suc, _+_, _*_, _-_, _≤_, _<_}
 use native.Mathlib.Omega.{arith}
-use native.Mathlib.Decide.{decLt}
+use native.Mathlib.Decide.{decLt, ℕ-discrete}
+use native.Mathlib.Nat.{le-refl}
 use lib.ListN.{length, getD}
 use Rattle.model.specs.declared.Seconds.{Seconds}
 use Rattle.walk.specs.Steps.{periodsIn}
@@ -14,6 +15,21 @@ use Rattle.table_stairs.specs.Rows.{needIn, lossIn, stairPeriods, stairA
 
 stair-same : {q q′ l l′ : ℕ} {ts ts′ : List Seconds} → q ≡ q′ → l ≡ l′ → ts ≡ ts′ → stair q l ts ≡ stair q′ l′ ts′
 stair-same a b c = rw (a, b, c)
+
+-- rows further on lose no less and need no more
+module _ {k : ℕ} {flat : List ℕ} (r : Rises k flat) where
+  same-or-later : (P : ℕ → ℕ → Type 0) → ((a : ℕ) → P a a) → ((a b : ℕ) → a < b → b < k → P a b) → (a b : ℕ) → a ≤ b → b < k → P a b
+  same-or-later P same later a b le to = go (ℕ-discrete a b)
+    where
+      go : Dec (a ≡ b) → P a b
+      go (yes e) = subst (P a) e (same a)
+      go (no d) = later a b (omega arith) to
+
+  pub loss-up : (a b : ℕ) → a ≤ b → b < k → lossIn flat a ≤ lossIn flat b
+  loss-up = same-or-later (λ a b. lossIn flat a ≤ lossIn flat b) (λ a. le-refl _) (λ a b less to. omega (arith, r .loss-rises a b less to))
+
+  pub need-down : (a b : ℕ) → a ≤ b → b < k → needIn flat b ≤ needIn flat a
+  need-down = same-or-later (λ a b. needIn flat b ≤ needIn flat a) (λ a. le-refl _) (λ a b less to. omega (arith, r .need-falls a b less to))
 
 -- rows of the same three numbers are the same
 module _ (flat flat′ : List ℕ) (a b : ℕ) (h : (m : ℕ) → m < 3 → getD flat (3 * a + m) 0 ≡ getD flat′ (3 * b + m) 0) where
@@ -54,7 +70,8 @@ module _ (n : ℕ) (flat : List ℕ) where
   rows-split i (suc a) b =
       let e : suc a + b ≡ suc (a + b) = omega arith in
       let d : i + 1 + a ≡ i + suc a = omega arith in
-      ap (rowsFrom n flat i) e ∙ ap (λ (l : List Stair). stairAt n flat i ∷ l) (rows-split (i + 1) a b ∙ ap (λ (x : ℕ). rowsFrom n flat (i + 1) a ++ rowsFrom n flat x b) d)
+      let later = rows-split (i + 1) a b ∙ ap (λ (x : ℕ). rowsFrom n flat (i + 1) a ++ rowsFrom n flat x b) d in
+      ap (rowsFrom n flat i) e ∙ ap (λ (l : List Stair). stairAt n flat i ∷ l) later
 
 pub rows-same : (n : ℕ) (flat flat′ : List ℕ) (i j k : ℕ) → ((x : ℕ) → x < k → stairAt n flat (i + x) ≡ stairAt n flat′ (j + x)) → rowsFrom n flat i k ≡ rowsFrom n flat′ j k
 unfolding rowsFrom
@@ -94,7 +111,8 @@ moved-stored {i} {j} {e} {q} {l} {ps} {flat} {flat₁} {flat′} m s =
     later a x a< x< =
         let to : 3 * (i + 1 + a) + x ≡ 3 * (i + 1) + (3 * a + x) = omega arith in
         let from : 3 * j + (3 * a + x) ≡ 3 * (j + a) + x = omega arith in
-        ap (λ (y : ℕ). getD flat′ y 0) to ∙ s .behind (3 * (i + 1) + (3 * a + x)) (omega arith) ∙ m .moved (3 * a + x) (omega arith) ∙ ap (λ (y : ℕ). getD flat y 0) from
+        let stored = s .behind (3 * (i + 1) + (3 * a + x)) (omega arith) in
+        ap (λ (y : ℕ). getD flat′ y 0) to ∙ stored ∙ m .moved (3 * a + x) (omega arith) ∙ ap (λ (y : ℕ). getD flat y 0) from
 
 module _ {i j e q l k : ℕ} {ps flat flat′ : List ℕ} (within : e ≤ k) (p : Place k flat q l i j) (b : Between i j e q l ps flat flat′) where
   -- the rows as a list
@@ -104,7 +122,8 @@ module _ {i j e q l k : ℕ} {ps flat flat′ : List ℕ} (within : e ≤ k) (p 
       let d : i + 1 + (e - j) ≡ i + suc (e - j) = omega arith in
       let z : 0 + i ≡ i = omega arith in
       let new : stairAt n flat′ i ≡ stair q l (periodsIn n ps) = stair-same (b .its-need) (b .its-loss) (ap (periodsIn n) (b .periods)) in
-      ap (rowsFrom n flat′ 0) d ∙ rows-split n flat′ 0 i (suc (e - j)) ∙ ap₂ (λ (xs ys : List Stair). xs ++ ys) before (ap (λ (x : ℕ). rowsFrom n flat′ x (suc (e - j))) z ∙ ap₂ (λ (r : Stair) (rows : List Stair). r ∷ rows) new after)
+      let from-it = ap (λ (x : ℕ). rowsFrom n flat′ x (suc (e - j))) z ∙ ap₂ (λ (r : Stair) (rows : List Stair). r ∷ rows) new after in
+      ap (rowsFrom n flat′ 0) d ∙ rows-split n flat′ 0 i (suc (e - j)) ∙ ap₂ (λ (xs ys : List Stair). xs ++ ys) before from-it
     where
       before : rowsFrom n flat′ 0 i ≡ rowsFrom n flat 0 i
       before = rows-same n flat′ flat 0 0 i (λ x less. row-same flat′ flat (0 + x) (0 + x) (λ m three. b .front (0 + x) m (omega arith) three) n)
@@ -112,9 +131,11 @@ module _ {i j e q l k : ℕ} {ps flat flat′ : List ℕ} (within : e ≤ k) (p 
       after : rowsFrom n flat′ (i + 1) (e - j) ≡ rowsFrom n flat j (e - j)
       after = rows-same n flat′ flat (i + 1) j (e - j) (λ x less. row-same flat′ flat (i + 1 + x) (j + x) (λ m three. b .behind x m less three) n)
 
-  -- where a row of the new array was
-  later : (a : ℕ) → i < a → i + 1 + (a - (i + 1)) ≡ a
-  later a more = omega arith
+  -- where a row behind the plan was
+  was : (a : ℕ) → i < a → a < i + 1 + (e - j) → (m : ℕ) → m < 3 → getD flat′ (3 * a + m) 0 ≡ getD flat (3 * (j + (a - (i + 1))) + m) 0
+  was a more to m three =
+      let place : a ≡ i + 1 + (a - (i + 1)) = omega arith in
+      ap (λ (x : ℕ). getD flat′ (3 * x + m) 0) place ∙ b .behind (a - (i + 1)) m (omega arith) three
 
   -- each row of the new array is the plan or was a row before place e
   module _ (from : i ≤ e) (a : ℕ) (to : a < i + 1 + (e - j)) where
@@ -123,7 +144,7 @@ module _ {i j e q l k : ℕ} {ps flat flat′ : List ℕ} (within : e ≤ k) (p 
       where
         go : Dec (a < i) → Dec (i < a) → P
         go (yes f) x = old a (omega arith) (λ m three. b .front a m f three)
-        go (no f) (yes g) = old (j + (a - (i + 1))) (omega arith) (λ m three. ap (λ (x : ℕ). getD flat′ (3 * x + m) 0) (sym (later a g)) ∙ b .behind (a - (i + 1)) m (omega arith) three)
+        go (no f) (yes g) = old (j + (a - (i + 1))) (omega arith) (was a g to)
         go (no f) (no g) = new (omega arith)
 
     -- each has n periods
@@ -138,45 +159,35 @@ module _ {i j e q l k : ℕ} {ps flat flat′ : List ℕ} (within : e ≤ k) (p 
         (λ c less same. omega (arith, loss-same flat′ flat a c same, old c less))
         (λ is. omega (arith, ap (lossIn flat′) is, b .its-loss))
 
-  -- and they rise
-  module _ (r : Rises k flat) where
-    loss-front : (a : ℕ) → a < i → lossIn flat′ a ≡ lossIn flat a
-    loss-front a less = loss-same flat′ flat a a (λ m three. b .front a m less three)
-
-    need-front : (a : ℕ) → a < i → needIn flat′ a ≡ needIn flat a
-    need-front a less = need-same flat′ flat a a (λ m three. b .front a m less three)
-
-    loss-behind : (a : ℕ) → i < a → a < i + 1 + (e - j) → lossIn flat′ a ≡ lossIn flat (j + (a - (i + 1)))
-    loss-behind a more less = ap (lossIn flat′) (sym (later a more)) ∙ loss-same flat′ flat (i + 1 + (a - (i + 1))) (j + (a - (i + 1))) (λ m three. b .behind (a - (i + 1)) m (omega arith) three)
-
-    need-behind : (a : ℕ) → i < a → a < i + 1 + (e - j) → needIn flat′ a ≡ needIn flat (j + (a - (i + 1)))
-    need-behind a more less = ap (needIn flat′) (sym (later a more)) ∙ need-same flat′ flat (i + 1 + (a - (i + 1))) (j + (a - (i + 1))) (λ m three. b .behind (a - (i + 1)) m (omega arith) three)
-
-    pub between-rises : Rises (i + 1 + (e - j)) flat′
-    between-rises = record { loss-rises = λ a c less to. loss a c less to (decLt a i) (decLt i a) (decLt c i) (decLt i c); need-falls = λ a c less to. need a c less to (decLt a i) (decLt i a) (decLt c i) (decLt i c) }
+  -- what a row's three numbers tell is ordered still, if the plan's own stands between what is before place i and what is from place j on
+  module _ (N : List ℕ → ℕ → ℕ) (told : (a c : ℕ) → ((m : ℕ) → m < 3 → getD flat′ (3 * a + m) 0 ≡ getD flat (3 * c + m) 0) → N flat′ a ≡ N flat c)
+      (R : ℕ → ℕ → Type 0) {own : ℕ} (new : N flat′ i ≡ own) where
+    ordered : ((a : ℕ) → a < i → R (N flat a) own) → ((a : ℕ) → j ≤ a → a < k → R own (N flat a)) → ((a c : ℕ) → a < c → c < k → R (N flat a) (N flat c))
+        → (a c : ℕ) → a < c → c < i + 1 + (e - j) → R (N flat′ a) (N flat′ c)
+    ordered above below old a c less to = go (decLt a i) (decLt i a) (decLt c i) (decLt i c)
       where
-        loss : (a c : ℕ) → a < c → c < i + 1 + (e - j) → Dec (a < i) → Dec (i < a) → Dec (c < i) → Dec (i < c) → lossIn flat′ a < lossIn flat′ c
-        loss a c less to (yes f) x (yes g) y = omega (arith, loss-front a f, loss-front c g, r .loss-rises a c less (let o = p .order in let u = p .upto in omega arith))
-        loss a c less to (yes f) x (no g) (yes h) = omega (arith, loss-front a f, loss-behind c h to, r .loss-rises a (j + (c - (i + 1))) (let o = p .order in omega arith) (omega arith))
-        loss a c less to (yes f) x (no g) (no h) =
-            let is : c ≡ i = omega arith in
-            omega (arith, loss-front a f, p .above-loss a f, ap (lossIn flat′) is, b .its-loss)
-        loss a c less to (no f) (yes g) x (yes h) = omega (arith, loss-behind a g (omega arith), loss-behind c h to, r .loss-rises (j + (a - (i + 1))) (j + (c - (i + 1))) (omega arith) (omega arith))
-        loss a c less to (no f) (yes g) x (no h) = absurd (omega arith)
-        loss a c less to (no f) (no g) x (yes h) =
-            let is : a ≡ i = omega arith in
-            omega (arith, ap (lossIn flat′) is, b .its-loss, loss-behind c h to, p .below-loss (j + (c - (i + 1))) (omega arith) (omega arith))
-        loss a c less to (no f) (no g) x (no h) = absurd (omega arith)
+        front : (x : ℕ) → x < i → N flat′ x ≡ N flat x
+        front x before = told x x (λ m three. b .front x m before three)
 
-        need : (a c : ℕ) → a < c → c < i + 1 + (e - j) → Dec (a < i) → Dec (i < a) → Dec (c < i) → Dec (i < c) → needIn flat′ c < needIn flat′ a
-        need a c less to (yes f) x (yes g) y = omega (arith, need-front a f, need-front c g, r .need-falls a c less (let o = p .order in let u = p .upto in omega arith))
-        need a c less to (yes f) x (no g) (yes h) = omega (arith, need-front a f, need-behind c h to, r .need-falls a (j + (c - (i + 1))) (let o = p .order in omega arith) (omega arith))
-        need a c less to (yes f) x (no g) (no h) =
+        behind : (x : ℕ) → i < x → x < i + 1 + (e - j) → N flat′ x ≡ N flat (j + (x - (i + 1)))
+        behind x past within-it = told x (j + (x - (i + 1))) (was x past within-it)
+
+        go : Dec (a < i) → Dec (i < a) → Dec (c < i) → Dec (i < c) → R (N flat′ a) (N flat′ c)
+        go (yes f) x (yes g) y = rw (front a f, front c g) (old a c less (omega (arith, p .order, p .upto)))
+        go (yes f) x (no g) (yes h) = rw (front a f, behind c h to) (old a (j + (c - (i + 1))) (omega (arith, p .order)) (omega arith))
+        go (yes f) x (no g) (no h) =
             let is : c ≡ i = omega arith in
-            omega (arith, need-front a f, p .above-need a f, ap (needIn flat′) is, b .its-need)
-        need a c less to (no f) (yes g) x (yes h) = omega (arith, need-behind a g (omega arith), need-behind c h to, r .need-falls (j + (a - (i + 1))) (j + (c - (i + 1))) (omega arith) (omega arith))
-        need a c less to (no f) (yes g) x (no h) = absurd (omega arith)
-        need a c less to (no f) (no g) x (yes h) =
+            rw (front a f, is, new) (above a f)
+        go (no f) (yes g) x (yes h) = rw (behind a g (omega arith), behind c h to) (old (j + (a - (i + 1))) (j + (c - (i + 1))) (omega arith) (omega arith))
+        go (no f) (yes g) x (no h) = absurd (omega arith)
+        go (no f) (no g) x (yes h) =
             let is : a ≡ i = omega arith in
-            omega (arith, ap (needIn flat′) is, b .its-need, need-behind c h to, p .below-need (j + (c - (i + 1))) (omega arith) (omega arith))
-        need a c less to (no f) (no g) x (no h) = absurd (omega arith)
+            rw (is, new, behind c h to) (below (j + (c - (i + 1))) (omega arith) (omega arith))
+        go (no f) (no g) x (no h) = absurd (omega arith)
+
+  -- so they rise
+  pub between-rises : Rises k flat → Rises (i + 1 + (e - j)) flat′
+  between-rises r = record {
+    loss-rises = ordered lossIn (loss-same flat′ flat) (λ x y. x < y) (b .its-loss) (p .above-loss) (p .below-loss) (r .loss-rises);
+    need-falls = ordered needIn (need-same flat′ flat) (λ x y. y < x) (b .its-need) (p .above-need) (p .below-need) (r .need-falls);
+  }

@@ -1,6 +1,6 @@
 -- `table_enter::enter_plan` meets its contract: each way out is one case of the update.
 -- Assumes nothing.
-use mathlib.Core.Path.{ap}
+use mathlib.Core.Path.{_≡_, ap}
 use native.Mathlib.Omega.{arith}
 use Rattle.model.specs.declared.PagesPerHour.{PagesPerHour}
 use Rattle.table_stairs.proofs.Entering.{placed, enters-over, enters-bound, enters-covered, enters-new}
@@ -8,20 +8,25 @@ use borrow.Author.Needs.{needs}
 use Rattle.table_enter.proofs.enter_plan.Statement.{statement}
 use Rattle.table_enter.proofs.enter_plan.Tie as tie
 
+-- the need by its number
+need-is : {q need : PagesPerHour} → q ≡ need → q .0 ≡ need .0
+need-is e = ap (λ (x : PagesPerHour). x .0) e
+
 need-of-requires : tie.Need-need-of-requires
 need-of-requires c κs = search needs
 
 returns : tie.Need-returns
 returns c =
-    let e = ap (λ (q : PagesPerHour). q .0) (c .before .before .before .need-of .ensures) in
-    enters-over (c .before .before .before .before .pre .1 .1) (omega arith)
+    let needed = c .before .before .before in
+    enters-over (needed .before .pre .1 .1) (need-is (needed .need-of .ensures)) (c .if1 .taken)
 
 element-copy-out-if2 : tie.Need-element-copy-out-if2
 element-copy-out-if2 c = search needs
 
 returns-2 : tie.Need-returns-2
 returns-2 c =
-    enters-bound (c .before .before .before .before .before .before .pre .1 .1) (omega (arith, c .if2 .taken))
+    let needed = c .before .before .before .before .before in
+    enters-bound (needed .before .pre .1 .1) (need-is (needed .need-of .ensures)) (omega (arith, c .if2 .taken))
 
 element-copy-out-count : tie.Need-element-copy-out-count
 element-copy-out-count c = search needs
@@ -33,7 +38,7 @@ returns-3 : tie.Need-returns-3
 returns-3 c =
     let asked = c .before in
     let needed = asked .before .before .before .before .before .before .before .before in
-    enters-covered (needed .before .pre .1 .1) (ap (λ (q : PagesPerHour). q .0) (needed .need-of .ensures)) (asked .covers .ensures) (c .if3 .taken)
+    enters-covered (needed .before .pre .1 .1) (need-is (needed .need-of .ensures)) (asked .covers .ensures) (c .if3 .taken)
 
 losing-less-requires : tie.Need-losing-less-requires
 losing-less-requires c κs = search needs
@@ -61,9 +66,9 @@ returns-4 c =
     let within = below .before .before in
     let needed = within .before .before .before in
     let s = needed .before .pre .1 .1 in
-    let e = ap (λ (q : PagesPerHour). q .0) (needed .need-of .ensures) in
     let place = placed (s .rises) (asked .covers .ensures) (uncovered .if3 .left) (ahead .losing-less .ensures) (behind .needing-less .ensures) in
-    enters-new s e (omega (arith, within .if1 .left)) (omega (arith, below .if2 .left)) (asked .covers .ensures) (uncovered .if3 .left) place (c .put-plan .ensures)
+    enters-new s (need-is (needed .need-of .ensures)) (asked .covers .ensures) (uncovered .if3 .left)
+    (omega (arith, within .if1 .left)) (omega (arith, below .if2 .left)) place (c .put-plan .ensures)
 
 pub enter-plan-spec : {M : Type 1} → statement M
 enter-plan-spec =

@@ -17,7 +17,7 @@ returns c =
     let f = c .before .before .before in
     let s = f .before in
     let e = ap (λ (q : PagesPerHour). q .0) (f .need-floor .ensures) in
-    λ no-more. over-enters-nothing (s .pre .0) (s .args .budget) (s .args .floor) (s .args .rows .now) (s .args .marks .now) (omega arith)
+    λ no-more. over-enters-nothing (s .pre .0) (s .args .budget) (s .args .floor) (s .args .rows .now) (s .args .marks .now) e (omega arith)
 
 element-copy-out-count : tie.Need-element-copy-out-count
 element-copy-out-count c = search needs
@@ -30,7 +30,7 @@ returns-2 c =
     let f = c .before .before .before .before .before .before in
     let s = f .before in
     let e = ap (λ (q : PagesPerHour). q .0) (f .need-floor .ensures) in
-    λ no-more. covered-enters-nothing (s .pre .0) (s .args .budget) (s .args .floor) (s .args .rows .now) (s .args .marks .now) (omega arith) (c .before .covers .ensures) (c .if2 .taken)
+    λ no-more. covered-enters-nothing (s .pre .0) (s .args .budget) (s .args .floor) (s .args .rows .now) (s .args .marks .now) e (c .before .covers .ensures) (c .if2 .taken)
 
 reaches-requires : tie.Need-reaches-requires
 reaches-requires c κs = ready-ends (c .before .before .before .before .before .before .before .pre .0 .ready)

@@ -12,7 +12,7 @@ sub-places-losing-less : tie.Need-sub-places-losing-less
 sub-places-losing-less c = search needs
 
 places-losing-less-requires : tie.Need-places-losing-less-requires
-places-losing-less-requires c κs = places-rise (c .pre .1) (c .pre .0) (omega arith) (λ x at. omega (arith, at))
+places-losing-less-requires c κs = places-rise (c .pre .1) (c .pre .0) (λ x at. omega (arith, at))
 
 mul-from : tie.Need-mul-from
 mul-from c = search needs
@@ -26,7 +26,7 @@ sub-places-losing-less-2 c = search needs
 places-losing-less-requires-2 : tie.Need-places-losing-less-requires-2
 places-losing-less-requires-2 c κs =
     let entry = c .before .before in
-    places-rise (entry .pre .1) (entry .pre .0) (omega arith) (λ x at. omega (arith, at))
+    places-rise (entry .pre .1) (entry .pre .0) (λ x at. omega (arith, at))
 
 add-result : tie.Need-add-result
 add-result c = search needs
@@ -39,7 +39,7 @@ returns c =
 places-losing-less-requires-3 : tie.Need-places-losing-less-requires-3
 places-losing-less-requires-3 c κs =
     let entry = c .before .before in
-    places-rise (entry .pre .1) (entry .pre .0) (omega arith) (λ x at. omega (arith, at, c .if1 .left))
+    places-rise (entry .pre .1) (entry .pre .0) (λ x at. omega (arith, at, c .if1 .left))
 
 add-result-2 : tie.Need-add-result-2
 add-result-2 c = search needs
