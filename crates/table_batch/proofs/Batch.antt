@@ -7,7 +7,7 @@ use native.Mathlib.Numerals.{add-one}
 use Rattle.codec.specs.RowWords.{withRow}
 use Rattle.table_batch.specs.Batch.{batchRow, withBatch}
 
--- writing a batch, as the code does it
-pub batch-more : (flat old : List ℕ) (end k : ℕ) {out new : List ℕ} → out ≡ withBatch flat end k old → new ≡ withRow out (end - 1 - k) (batchRow flat k) → new ≡ withBatch flat end (k + 1) old
+-- one row of a batch more, as the code writes it
+pub one-written : (flat old : List ℕ) (end k : ℕ) {out new : List ℕ} → out ≡ withBatch flat end k old → new ≡ withRow out (end - 1 - k) (batchRow flat k) → new ≡ withBatch flat end (k + 1) old
 unfolding withBatch
-batch-more flat old end k e is = rw add-one (is ∙ ap (λ (l : List ℕ). withRow l (end - 1 - k) (batchRow flat k)) e)
+one-written flat old end k e is = rw add-one (is ∙ ap (λ (l : List ℕ). withRow l (end - 1 - k) (batchRow flat k)) e)

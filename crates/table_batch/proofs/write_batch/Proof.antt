@@ -6,7 +6,7 @@ use native.Mathlib.Omega.{arith}
 use borrow.Author.Needs.{needs}
 use lib.ListN.{length}
 use Rattle.table_batch.specs.Batch.{withBatch}
-use Rattle.table_batch.proofs.Batch.{batch-more}
+use Rattle.table_batch.proofs.Batch.{one-written}
 use Rattle.table_batch.proofs.write_batch.Statement.{statement}
 use Rattle.table_batch.proofs.write_batch.Tie as tie
 
@@ -60,7 +60,7 @@ loop-again : tie.Need-loop-again Inv-loop μ-loop
 loop-again c =
     let put = c .before .before .put-row in
     let l = c .before .before .before .before .before .before in
-    (omega (arith, l .loop-test .taken), put .kept .0 ∙ l .before .loop .inv .1, batch-more _ _ _ _ (l .before .loop .inv .2) (put .ensures))
+    (omega (arith, l .loop-test .taken), put .kept .0 ∙ l .before .loop .inv .1, one-written _ _ _ _ (l .before .loop .inv .2) (put .ensures))
 
 same-length : tie.Need-same-length Inv-loop μ-loop
 same-length c = c .before .loop .inv .1

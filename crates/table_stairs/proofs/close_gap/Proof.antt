@@ -1,14 +1,14 @@
 -- `table_stairs::close_gap` meets its contract: x numbers have moved.
 -- Assumes nothing.
 use Prim.Native.Nat.{_*_, _-_}
-use Rattle.table_stairs.proofs.Moves.{Closing, closing-starts, closing-turn, closing-done, none-moved}
+use Rattle.table_stairs.proofs.Moves.{Lowered, none-lowered, one-lowered, all-lowered, none-moved}
 use borrow.Author.Needs.{needs}
 use native.Mathlib.Omega.{arith}
 use Rattle.table_stairs.proofs.close_gap.Statement.{statement}
 use Rattle.table_stairs.proofs.close_gap.Tie as tie
 
 abbrev Inv-loop : tie.InvT-loop
-Inv-loop rows₀ i j e to from size x₀ rows x = Closing i j e rows₀ rows x
+Inv-loop rows₀ i j e to from size x₀ rows x = Lowered i j e rows₀ rows x
 
 abbrev μ-loop : tie.MeasureT-loop
 μ-loop rows₀ i j e to from size x₀ rows x = 3 * (e - j) - x
@@ -32,7 +32,7 @@ mul-size : tie.Need-mul-size Inv-loop μ-loop
 mul-size c = search needs
 
 loop-holds : tie.Need-loop-holds Inv-loop μ-loop
-loop-holds c = closing-starts (c .before .pre .0)
+loop-holds c = none-lowered (c .before .pre .0)
 
 add-y : tie.Need-add-y Inv-loop μ-loop
 add-y c = search needs
@@ -61,10 +61,10 @@ loop-less c = search needs
 loop-again : tie.Need-loop-again Inv-loop μ-loop
 loop-again c =
     let p = c .before .before .before .before .pre in
-    closing-turn (p .1 .0) (p .1 .1 .1) (c .before .loop-test .taken) (c .before .before .loop .inv)
+    one-lowered (p .1 .0) (p .1 .1 .1) (c .before .loop-test .taken) (c .before .before .loop .inv)
 
 returns-2 : tie.Need-returns-2 Inv-loop μ-loop
-returns-2 c = closing-done (omega arith) (c .before .loop .inv)
+returns-2 c = all-lowered (omega arith) (c .before .loop .inv)
 
 pub close-gap-spec : {M : Type 1} → statement M
 close-gap-spec =

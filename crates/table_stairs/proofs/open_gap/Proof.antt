@@ -1,13 +1,13 @@
 -- `table_stairs::open_gap` meets its contract: the numbers from p on have moved by three.
 -- Assumes nothing.
-use Rattle.table_stairs.proofs.Moves.{Opening, opening-starts, opening-turn, opening-done}
+use Rattle.table_stairs.proofs.Moves.{Raised, none-raised, one-raised, all-raised}
 use borrow.Author.Needs.{needs}
 use native.Mathlib.Omega.{arith}
 use Rattle.table_stairs.proofs.open_gap.Statement.{statement}
 use Rattle.table_stairs.proofs.open_gap.Tie as tie
 
 abbrev Inv-loop : tie.InvT-loop
-Inv-loop rows₀ i e first p₀ rows p = Opening i e rows₀ rows p
+Inv-loop rows₀ i e first p₀ rows p = Raised i e rows₀ rows p
 
 abbrev μ-loop : tie.MeasureT-loop
 μ-loop rows₀ i e first p₀ rows p = p
@@ -19,7 +19,7 @@ mul-p : tie.Need-mul-p Inv-loop μ-loop
 mul-p c = search needs
 
 loop-holds : tie.Need-loop-holds Inv-loop μ-loop
-loop-holds c = opening-starts (c .pre .0) (c .pre .1 .0)
+loop-holds c = none-raised (c .pre .0) (c .pre .1 .0)
 
 sub-p : tie.Need-sub-p Inv-loop μ-loop
 sub-p c = search needs
@@ -43,10 +43,10 @@ loop-less : tie.Need-loop-less Inv-loop μ-loop
 loop-less c = search needs
 
 loop-again : tie.Need-loop-again Inv-loop μ-loop
-loop-again c = opening-turn (c .before .before .before .pre .1 .1) (c .before .loop-test .taken) (c .before .before .loop .inv)
+loop-again c = one-raised (c .before .before .before .pre .1 .1) (c .before .loop-test .taken) (c .before .before .loop .inv)
 
 returns : tie.Need-returns Inv-loop μ-loop
-returns c = opening-done (omega arith) (c .before .loop .inv)
+returns c = all-raised (omega arith) (c .before .loop .inv)
 
 pub open-gap-spec : {M : Type 1} → statement M
 open-gap-spec =
