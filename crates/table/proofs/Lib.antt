@@ -4,6 +4,6 @@ pub mod OneOutcome
 pub mod Descent
 pub mod Reading
 pub mod Next
-pub mod Counting
 pub mod TableRows
+pub mod Turns
 pub mod Outcome

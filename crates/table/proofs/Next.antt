@@ -2,7 +2,7 @@
 -- Assumes nothing.
 use mathlib.Core.Path.{_≡_, sym, _∙_, ap}
 use mathlib.Core.List.{List, [], _∷_, _++_, map, reverse, append-nil, append-assoc, reverse-cons}
-use Prim.Native.Nat.{ℕ, suc, _+_, _-_, _≤_, _<_}
+use Prim.Native.Nat.{ℕ, suc, _+_, _-_, _<_}
 use native.Mathlib.Omega.{arith}
 use lib.ListN.{length, length-append, length-map, length-reverse}
 use Rattle.model.specs.declared.Seconds.{Seconds}
@@ -15,7 +15,7 @@ use Rattle.table_stairs.specs.Stairs.{Stair, stair}
 use Rattle.table_stairs.specs.Rows.{needIn, stairAt, stairsIn}
 use Rattle.table_climb.specs.Next.{Answer, NextAnswers, lastNeed, AnswersUnder, AnswersIn}
 use Rattle.table_stairs.proofs.Rows.{rows-length}
-use Rattle.table_climb.proofs.Answers.{need-last, limit-falls}
+use Rattle.table_climb.proofs.Answers.{need-last}
 use Rattle.table.specs.Descent.{rowsBelow}
 use Rattle.table.proofs.Descent.{rows-step, rows-none}
 
@@ -60,9 +60,6 @@ module _ {p : Profile} (v : Valid p) {budget : PagesPerHour} {found : ℕ} {flat
 
   pub batch-count : length (rowsBelow (jobsOf p) (suc (budget .0))) ≡ length (rowsBelow (jobsOf p) (lastNeed (suc (budget .0)) (stairsIn (p .n) found flat))) + found
   batch-count = omega (arith, count-next (jobsOf p) (v .jobs) _ batch (b .under .next), batch-length)
-
-  pub batch-falls : lastNeed (suc (budget .0)) (stairsIn (p .n) found flat) + found ≤ suc (budget .0)
-  batch-falls = omega (arith, limit-falls (jobsOf p) _ batch (b .under .next), batch-length)
 
   pub batch-none : found ≡ 0 → rowsBelow (jobsOf p) (suc (budget .0)) ≡ []
   batch-none e = rows-no-answer (jobsOf p) (v .jobs) budget batch (b .under) (batch-length ∙ e)

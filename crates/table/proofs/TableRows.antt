@@ -4,7 +4,6 @@ use mathlib.Core.Path.{_≡_, refl, sym, _∙_, ap, ap₂, subst}
 use mathlib.Core.List.{List, [], _∷_, _++_, append-assoc, append-nil, flatMap}
 use Prim.Native.Nat.{ℕ, zero, suc, _+_, _*_, _-_, _/_, _^_, _≤_, _<_}
 use native.Mathlib.Omega.{arith}
-use native.Mathlib.Decide.{decLt}
 use native.Mathlib.Nat.{le-refl, sub-zero}
 use lib.ListN.{length, getD, take, drop, replicate, length-append, length-drop, take-append-drop}
 use lib.Seq.{take-take, take-append-le, take-length, drop-at, length-take-le}
@@ -26,8 +25,7 @@ use Rattle.table_climb.proofs.Answers.{answer-at, need-at}
 use Rattle.table_batch.specs.Batch.{batchRow, withBatch}
 use Rattle.table.specs.Table.{tableBytes}
 use Rattle.table.specs.Descent.{rowsBelow, allBudgets}
-use Rattle.table.proofs.Descent.{rows-zero}
-use Rattle.table.proofs.Next.{rows-answer, batch-length, batch-need, batch-count, batch-none}
+use Rattle.table.proofs.Next.{rows-answer, batch-length, batch-need}
 
 -- zeros behind a list are what stands beyond it
 getD-zeros : (k i : ℕ) → getD (replicate k (seconds 0)) i (seconds 0) ≡ seconds 0
@@ -80,7 +78,8 @@ module _ (js : List Job) (count : ℕ) (old : List ℕ) where
     all-written e =
         let z : row ≡ 0 = omega arith in
         let none : rowsBelow js limit ≡ [] = nil-of-zero (rowsBelow js limit) (sym (i .left) ∙ z) in
-        i .bytes ∙ ap₂ (λ (k : ℕ) (ws : List (List Seconds)). take (rowSize * k) old ++ (tableBytes js ws ++ drop (rowSize * count) old)) z (sym (i .whole ∙ ap (λ (l : List (List Seconds)). l ++ i .written) none))
+        let all : i .written ≡ rowsBelow js allBudgets = sym (i .whole ∙ ap (λ (l : List (List Seconds)). l ++ i .written) none) in
+        i .bytes ∙ ap₂ (λ (k : ℕ) (ws : List (List Seconds)). take (rowSize * k) old ++ (tableBytes js ws ++ drop (rowSize * count) old)) z all
       where
         nil-of-zero : (l : List (List Seconds)) → length l ≡ 0 → l ≡ []
         nil-of-zero [] d = refl
@@ -95,66 +94,68 @@ module _ (js : List Job) (count : ℕ) (old : List ℕ) where
         let T = tableBytes js (i .written) in
         let D = drop (rowSize * count) old in
         let P = take (rowSize * row) old in
-        let step : rowsBelow js limit ≡ rowsBelow js (r .its-need) ++ (ts ∷ []) = rows-answer js v a in
-        let one-more : row ≡ length (rowsBelow js (r .its-need)) + 1 = i .left ∙ ap length step ∙ length-append (rowsBelow js (r .its-need)) (ts ∷ []) in
+        let earlier = rowsBelow js (r .its-need) in
+        let step : rowsBelow js limit ≡ earlier ++ (ts ∷ []) = rows-answer js v a in
+        let one-more : row ≡ length earlier + 1 = i .left ∙ ap length step ∙ length-append earlier (ts ∷ []) in
+        let place = rowSize * (row - 1) in
+        let next : place + rowSize ≡ rowSize * row = omega arith in
         let front : length P ≡ rowSize * row = length-take-le (rowSize * row) old (omega (arith, i .upto)) in
-        let before-it : take (rowSize * (row - 1)) out ≡ take (rowSize * (row - 1)) old = ap (take (rowSize * (row - 1))) (i .bytes) ∙ take-append-le (rowSize * (row - 1)) P (T ++ D) (omega arith) ∙ take-take (rowSize * (row - 1)) (rowSize * row) old (omega arith) in
-        let place : rowSize * (row - 1) + rowSize ≡ rowSize * row = omega arith in
-        let after-it : drop (rowSize * (row - 1) + rowSize) out ≡ T ++ D = ap₂ drop place (i .bytes) ∙ drop-at P (T ++ D) (rowSize * row) front in
+        let before-it : take place out ≡ take place old = ap (take place) (i .bytes) ∙ take-append-le place P (T ++ D) (omega arith) ∙ take-take place (rowSize * row) old (omega arith) in
+        let after-it : drop (place + rowSize) out ≡ T ++ D = ap₂ drop next (i .bytes) ∙ drop-at P (T ++ D) (rowSize * row) front in
         let inside : row - 1 < length out / rowSize = subst (λ (k : ℕ). row - 1 < k / rowSize) (sym (i .same)) (omega (arith, i .upto)) in
+        let around : withRow out (row - 1) R ≡ take place old ++ (R ++ (T ++ D)) = row-in out R (row - 1) inside ∙ ap₂ (λ (a b : List ℕ). a ++ (R ++ b)) before-it after-it in
         record {
           written = ts ∷ i .written;
-          whole = i .whole ∙ ap (λ (l : List (List Seconds)). l ++ i .written) step ∙ append-assoc (rowsBelow js (r .its-need)) (ts ∷ []) (i .written);
+          whole = i .whole ∙ ap (λ (l : List (List Seconds)). l ++ i .written) step ∙ append-assoc earlier (ts ∷ []) (i .written);
           left = omega arith;
           upto = omega (arith, i .upto);
           same = row-length out (row - 1) (need js ts) ts inside ∙ i .same;
-          bytes = row-in out R (row - 1) inside ∙ ap₂ (λ (a b : List ℕ). a ++ (R ++ b)) before-it after-it ∙ ap (λ (l : List ℕ). take (rowSize * (row - 1)) old ++ l) (sym (append-assoc R T D));
+          bytes = around ∙ ap (λ (l : List ℕ). take place old ++ l) (sym (append-assoc R T D));
         }
 
-  -- no budget is left
-  pub last-written : {out : List ℕ} {row : ℕ} → Writing js count old out row 0 → out ≡ tableBytes js (rowsBelow js allBudgets) ++ drop (rowSize * count) old
-  last-written i = all-written _ _ _ i (omega (arith, i .left, ap length (rows-zero js)))
+  -- told in other words
+  written-alike : {out out′ : List ℕ} {row row′ limit limit′ : ℕ} → out′ ≡ out → row′ ≡ row → limit′ ≡ limit → Writing js count old out row limit
+      → Writing js count old out′ row′ limit′
+  written-alike a b c i = rw (a, b, c) i
 
-module _ {p : Profile} {count : ℕ} {old : List ℕ} (v : Valid p) (room : count ≤ length old / rowSize) {out : List ℕ} {budget : PagesPerHour} {row found : ℕ} {flat : List ℕ} (i : Writing (jobsOf p) count old out row (suc (budget .0))) (b : AnswersIn p budget found flat) where
-  -- there are rows left, so some are found, and no more than those
-  pub some-found : 0 < row → 0 < found
-  some-found more = go (decLt 0 found)
-    where
-      go : Dec (0 < found) → 0 < found
-      go (yes h) = h
-      go (no h) = absurd (omega (arith, i .left, ap length (batch-none v b (omega arith))))
+module _ {p : Profile} {count : ℕ} {old : List ℕ} (v : Valid p) (room : count ≤ length old / rowSize) {out : List ℕ} {budget : PagesPerHour} {row found : ℕ} {flat : List ℕ}
+    (i : Writing (jobsOf p) count old out row (suc (budget .0))) (b : AnswersIn p budget found flat) where
+  abbrev batch : List Stair
+  batch = stairsIn (p .n) found flat
 
-  pub found-left : found ≤ row
-  found-left = omega (arith, i .left, batch-count v b)
+  -- what is left to come behind the first k rows of the batch
+  abbrev limitAt : ℕ → ℕ
+  limitAt k = lastNeed (suc (budget .0)) (take k batch)
 
-  -- one row of the batch more
-  next-written : (k : ℕ) → k < found → Writing (jobsOf p) count old (withBatch flat row k out) (row - k) (lastNeed (suc (budget .0)) (take k (stairsIn (p .n) found flat))) →
-      Writing (jobsOf p) count old (withBatch flat row (suc k) out) (row - suc k) (lastNeed (suc (budget .0)) (take (suc k) (stairsIn (p .n) found flat)))
+  -- these rows stand
+  abbrev Stand : ℕ → Type 0
+  Stand k = Writing (jobsOf p) count old (withBatch flat row k out) (row - k) (limitAt k)
+
+  next-written : (k : ℕ) → k < found → Stand k → Stand (suc k)
   unfolding withBatch
   next-written k less w =
       let d = stair 0 0 [] in
-      let rows = stairsIn (p .n) found flat in
-      let inside : k < length rows = omega (arith, batch-length v b) in
-      let place : row - k - 1 ≡ row - 1 - k = omega arith in
-      let left : row - k - 1 ≡ row - suc k = omega arith in
       let r = stairAt (p .n) flat k in
-      let answer = subst (Answer (jobsOf p) (lastNeed (suc (budget .0)) (take k rows))) (b .rows d k less) (answer-at d _ rows k (b .under .next) inside) in
-      let one = one-written (jobsOf p) count old (withBatch flat row k out) (row - k) (lastNeed (suc (budget .0)) (take k rows)) w (v .jobs) answer room in
-      subst (Writing (jobsOf p) count old (withBatch flat row (suc k) out) (row - suc k)) (sym (need-at d _ rows k inside ∙ ap (λ (x : Stair). x .its-need) (b .rows d k less)))
-      (subst (λ (m : ℕ). Writing (jobsOf p) count old (withBatch flat row (suc k) out) m (r .its-need)) left
-      (subst (λ (R : List ℕ). Writing (jobsOf p) count old (withRow (withBatch flat row k out) (row - 1 - k) R) (row - k - 1) (r .its-need)) (sym (answer-row (p .n) flat k answer (b .legible k less)))
-      (subst (λ (m : ℕ). Writing (jobsOf p) count old (withRow (withBatch flat row k out) m (tableRow (need (jobsOf p) (r .periods)) (r .periods))) (row - k - 1) (r .its-need)) place one)))
+      let is = b .rows d k less in
+      let inside : k < length batch = omega (arith, batch-length v b) in
+      let answer = subst (Answer (jobsOf p) (limitAt k)) is (answer-at d _ batch k (b .under .next) inside) in
+      let its-row = answer-row (p .n) flat k answer (b .legible k less) in
+      let place : row - 1 - k ≡ row - k - 1 = omega arith in
+      let left : row - suc k ≡ row - k - 1 = omega arith in
+      let limit : limitAt (suc k) ≡ r .its-need = need-at d _ batch k inside ∙ ap (λ (x : Stair). x .its-need) is in
+      written-alike (jobsOf p) count old (ap₂ (withRow (withBatch flat row k out)) place its-row) left limit
+      (one-written (jobsOf p) count old (withBatch flat row k out) (row - k) (limitAt k) w (v .jobs) answer room)
 
-  none-yet : Writing (jobsOf p) count old (withBatch flat row 0 out) (row - 0) (lastNeed (suc (budget .0)) (take 0 (stairsIn (p .n) found flat)))
+  none-yet : Stand 0
   unfolding withBatch lastNeed
   none-yet = rw sub-zero i
 
-  rows-written : (k : ℕ) → k ≤ found → Writing (jobsOf p) count old (withBatch flat row k out) (row - k) (lastNeed (suc (budget .0)) (take k (stairsIn (p .n) found flat)))
+  rows-written : (k : ℕ) → k ≤ found → Stand k
   rows-written zero le = none-yet
   rows-written (suc k) le = next-written k le (rows-written k (omega arith))
 
-  pub batch-written : 0 < row → {new : List ℕ} {next : ℕ} → new ≡ withBatch flat row found out → next ≡ needIn flat (found - 1) → Writing (jobsOf p) count old new (row - found) next
-  batch-written more e is =
-      let rows = stairsIn (p .n) found flat in
-      let all : take found rows ≡ rows = ap (λ (k : ℕ). take k rows) (sym (batch-length v b)) ∙ take-length rows in
-      rw (e, is, batch-need v b (some-found more)) (subst (λ (l : List Stair). Writing (jobsOf p) count old (withBatch flat row found out) (row - found) (lastNeed (suc (budget .0)) l)) all (rows-written found (le-refl found)))
+  pub batch-written : 0 < found → {new : List ℕ} {next : ℕ} → new ≡ withBatch flat row found out → next ≡ needIn flat (found - 1) → Writing (jobsOf p) count old new (row - found) next
+  batch-written some e is =
+      let all : batch ≡ take found batch = sym (take-length batch) ∙ ap (λ (k : ℕ). take k batch) (batch-length v b) in
+      let limit = is ∙ batch-need v b some ∙ ap (lastNeed (suc (budget .0))) all in
+      written-alike (jobsOf p) count old e refl limit (rows-written found (le-refl found))

@@ -9,16 +9,17 @@ use model::Counted;
 use model::PagesPerHour;
 use model::Profile;
 use model::Verdict;
-ghost use mathlib.Core.Path.{_≡_};
-ghost use mathlib.Core.List.{_++_};
-ghost use Prim.Native.Nat.{_*_, _/_, _≤_};
-ghost use lib.ListN.{length, drop};
-ghost use Rattle.model.specs.Model.{jobsOf, rowSize};
+ghost use Prim.Native.Nat.{_≤_};
+ghost use lib.ListN.{length};
+ghost use Rattle.model.specs.Model.{jobsOf};
 ghost use Rattle.model.specs.Valid.{Valid};
-ghost use Rattle.table.specs.Table.{tableBytes, Built};
-ghost use Rattle.table.specs.Descent.{rowsBelow, allBudgets};
+ghost use Rattle.table.specs.Table.{Built};
+ghost use Rattle.table.specs.Descent.{rowsBelow, allBudgets, Wrote};
 
 const GREATEST_BUDGET: PagesPerHour = PagesPerHour(0xffff_ffff);
+
+// As many as there are budgets.
+const MOST_ROWS: usize = 0x1_0000_0000;
 
 // Writes the budget table to the front of `out`, or refuses: the profile's own refusal, 9, then 11 with the rows needed.
 pub fn build_table(p: Profile, out: &mut [u8]) -> Counted
@@ -31,7 +32,8 @@ pub fn build_table(p: Profile, out: &mut [u8]) -> Counted
             count: 0,
         };
     };
-    let count = count_rows(p);
+    let mut nowhere = [0u8; 1];
+    let count = write_rows(p, MOST_ROWS, &mut nowhere) as u64;
     let w = model::judge_count(count, out.len());
     let Verdict::Sound = w else {
         return Counted {
@@ -46,44 +48,28 @@ pub fn build_table(p: Profile, out: &mut [u8]) -> Counted
     }
 }
 
-// How many rows there are, from the greatest budget down.
-fn count_rows(p: Profile) -> u64
+// Goes through the rows from the greatest budget down and writes them to the places before `end`, where `out` has these;
+// their number. One loop serves counting, in no room, and writing.
+fn write_rows(p: Profile, end: usize, out: &mut [u8]) -> usize
     requires { ⌜ Valid p ⌝ }
-    ensures { λ r. ⌜ r ≡ length (rowsBelow (jobsOf p) allBudgets) ⌝ }
+    requires { ⌜ length (rowsBelow (jobsOf p) allBudgets) ≤ end ⌝ }
+    ensures { λ r. ⌜ Wrote (jobsOf p) end (now (out .entry)) (now (out .exit)) r ⌝ }
 {
     let mut rows = [0u64; 768];
-    let mut count: u64 = 0;
+    let mut seen: usize = 0;
     let mut budget = GREATEST_BUDGET;
-    loop {
+    while seen < end {
         let found = table_climb::answers_under(p, budget, &mut rows);
         if found == 0 {
-            return count;
+            return seen;
         }
-        count += found as u64;
+        table_batch::write_batch(&rows, found, end - seen, out);
+        seen += found;
         let need = table_batch::last_need(&rows, found);
         if need.0 == 0 {
-            return count;
+            return seen;
         }
         budget = PagesPerHour(need.0 - 1);
     }
-}
-
-// The rows to the front of `out`, which has room for them, the last one first.
-fn write_rows(p: Profile, count: usize, out: &mut [u8])
-    requires { ⌜ Valid p × (count ≡ length (rowsBelow (jobsOf p) allBudgets)) × (count ≤ length (now out) / rowSize) ⌝ }
-    ensures { λ _. ⌜ now (out .exit) ≡ tableBytes (jobsOf p) (rowsBelow (jobsOf p) allBudgets) ++ drop (rowSize * count) (now (out .entry)) ⌝ }
-{
-    let mut rows = [0u64; 768];
-    let mut left = count;
-    let mut budget = GREATEST_BUDGET;
-    while 0 < left {
-        let found = table_climb::answers_under(p, budget, &mut rows);
-        table_batch::write_batch(&rows, found, left, out);
-        left -= found;
-        let need = table_batch::last_need(&rows, found);
-        if need.0 == 0 {
-            return;
-        }
-        budget = PagesPerHour(need.0 - 1);
-    }
+    seen
 }

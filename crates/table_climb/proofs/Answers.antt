@@ -1,8 +1,8 @@
--- The next answers one by one: the row at each place is the best below the need of the row before it, so what is left falls with every row.
+-- The next answers one by one: the row at each place is the best below the need of the row before it, and the last need is the last row's.
 -- Assumes nothing.
 use mathlib.Core.Path.{_≡_, refl, sym, _∙_, ap}
 use mathlib.Core.List.{List, [], _∷_}
-use Prim.Native.Nat.{ℕ, zero, suc, _+_, _≤_, _<_}
+use Prim.Native.Nat.{ℕ, zero, suc, _<_}
 use native.Mathlib.Omega.{arith}
 use lib.ListN.{length, getD, take}
 use lib.Seq.{take-length}
@@ -26,12 +26,3 @@ module _ (d : Stair) where
 
   pub need-last : (limit : ℕ) (rows : List Stair) (k : ℕ) → length rows ≡ suc k → lastNeed limit rows ≡ getD rows k d .its-need
   need-last limit rows k e = ap (lastNeed limit) (sym (take-length rows) ∙ ap (λ (n : ℕ). take n rows) e) ∙ need-at limit rows k (omega arith)
-
-pub answer-below : {js : List Job} {limit : ℕ} {r : Stair} → Answer js limit r → r .its-need < limit
-answer-below a = omega (arith, a .need-is, a .best .fits, a .greatest)
-
--- with every row less is left
-pub limit-falls : (js : List Job) (limit : ℕ) (rows : List Stair) → NextAnswers js limit rows → lastNeed limit rows + length rows ≤ limit
-unfolding lastNeed
-limit-falls js limit [] h = omega arith
-limit-falls js limit (r ∷ rows) h = omega (arith, answer-below (h .0), limit-falls js (r .its-need) rows (h .1))
