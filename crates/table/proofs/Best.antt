@@ -22,6 +22,9 @@ use Rattle.choose.proofs.OneOutcome.{one-best}
 use Rattle.step.proofs.Pages.{last-positive}
 use Rattle.table.specs.Table.{TableOf}
 
+pub same-need : (js : List Job) {ts us : List Seconds} → ts ≡ us → need js ts .0 ≡ need js us .0
+same-need js e = ap (λ (xs : List Seconds). need js xs .0) e
+
 module _ {js : List Job} {ts : List Seconds} where
   -- Best for a budget is best for every budget from its need up to that one.
   pub best-between : {b : PagesPerHour} (c : PagesPerHour) → Best js b ts → need js ts .0 ≤ c .0 → c .0 ≤ b .0 → Best js c ts
@@ -56,7 +59,7 @@ module _ {js : List Job} {ts us : List Seconds} {b c : PagesPerHour} (h : Best j
       go (no order) =
           let fits : need js us .0 ≤ b .0 = omega (arith, h .fits) in
           let same = one-best h (best-between b k fits le) in
-          absurd (omega (arith, ap (λ (xs : List Seconds). need js xs .0) same))
+          absurd (omega (arith, same-need js same))
 
 -- The best list for a budget, where some permitted list fits it.
 pub some-best : (js : List Job) (b : PagesPerHour) (us : List Seconds) → ValidJobs js → Permitted js us → FitsBudget js us b → (ts : List Seconds) × Best js b ts

@@ -38,16 +38,20 @@ module _ {js : List Job} where
           let s = p .some-budget ts m in
           q .every-budget (s .0) ts (s .1) (s .2)
 
-  -- where nothing fits there is no row
+  -- a table is that of all budgets
+  pub table-below : {rows : List (List Seconds)} → TableOf js rows → TableBelow js allBudgets rows
+  table-below t = record { some-budget = t .some-budget; every-budget = t .every-budget; rising = t .rising }
+
+  -- where no budget has a best list there is no row
+  below-empty : {limit : ℕ} → ((c : PagesPerHour) (ts : List Seconds) → c .0 < limit → Best js c ts → ⊥) → TableBelow js limit []
+  below-empty none = record { some-budget = λ ts m. absurd (List·Memᴰ·not-nil m); every-budget = λ c ts h k. absurd (none c ts h k); rising = tt }
+
   pub below-none : (b : PagesPerHour) → ((ts : List Seconds) → Permitted js ts → FitsBudget js ts b → ⊥) → TableBelow js (suc (b .0)) []
-  below-none b unfit = record {
-    some-budget = λ ts m. absurd (List·Memᴰ·not-nil m);
-    every-budget = λ c ts h k. absurd (unfit ts (k .permitted) (let fits = k .fits in omega arith));
-    rising = tt;
-  }
+  below-none b unfit = below-empty (λ c ts h k. unfit ts (k .permitted) (let fits = k .fits in omega arith))
 
   -- the best list for a budget, behind the rows of the budgets below its need
-  pub below-more : (b : PagesPerHour) (ts : List Seconds) (rows : List (List Seconds)) → Best js b ts → TableBelow js (need js ts .0) rows → TableBelow js (suc (b .0)) (rows ++ (ts ∷ []))
+  pub below-more : (b : PagesPerHour) (ts : List Seconds) (rows : List (List Seconds)) → Best js b ts → TableBelow js (need js ts .0) rows
+      → TableBelow js (suc (b .0)) (rows ++ (ts ∷ []))
   below-more b ts rows best t = record {
     some-budget = λ us m. ⊎-elim (earlier us) (here us) (List·Memᴰ·append-cases rows m);
     every-budget = λ c us h k. found-at c us h k (decLt (c .0) (need js ts .0));
@@ -72,7 +76,8 @@ module _ {js : List Job} where
           omega (arith, s .1, s .2 .fits)
 
 module _ (js : List Job) (v : ValidJobs js) where
-  up-to : (most b : ℕ) (below : ℕ → List (List Seconds)) (f : Found) → BestOrNone js (pagesPerHour b) f → b ≤ most → ((limit : ℕ) → limit ≤ most → TableBelow js limit (below limit)) → TableBelow js (suc b) (upTo below f)
+  up-to : (most b : ℕ) (below : ℕ → List (List Seconds)) (f : Found) → BestOrNone js (pagesPerHour b) f → b ≤ most
+      → ((limit : ℕ) → limit ≤ most → TableBelow js limit (below limit)) → TableBelow js (suc b) (upTo below f)
   unfolding upTo
   up-to most b below nothing h le tables = below-none (pagesPerHour b) h
   up-to most b below (found q l ts) h le tables =
@@ -81,8 +86,8 @@ module _ (js : List Job) (v : ValidJobs js) where
 
   descends : (most limit : ℕ) → limit ≤ most → TableBelow js limit (descent js most limit)
   unfolding descent
-  descends zero limit le = record { some-budget = λ ts m. absurd (List·Memᴰ·not-nil m); every-budget = λ c ts h k. absurd (omega arith); rising = tt }
-  descends (suc most) zero le = record { some-budget = λ ts m. absurd (List·Memᴰ·not-nil m); every-budget = λ c ts h k. absurd (omega arith); rising = tt }
+  descends zero limit le = below-empty (λ c ts h k. omega arith)
+  descends (suc most) zero le = below-empty (λ c ts h k. omega arith)
   descends (suc most) (suc b) le = up-to most b (descent js most) (walk (pick b) js start nothing) (walk-best js (pagesPerHour b) v) (omega arith) (descends most)
 
   pub rows-below : (limit : ℕ) → TableBelow js limit (rowsBelow js limit)

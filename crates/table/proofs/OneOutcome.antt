@@ -10,21 +10,15 @@ use Rattle.model.specs.declared.Job.{Job}
 use Rattle.model.specs.declared.Profile.{Profile}
 use Rattle.model.specs.declared.Counted.{Counted}
 use Rattle.model.specs.Model.{jobsOf}
-use Rattle.model.proofs.Lists.{Holds}
 use Rattle.model.proofs.FrontPut.{puts-rows-one}
 use Rattle.table.specs.Table.{TableOf, tableBytes, Built}
-use Rattle.table.proofs.Rising.{rows-one-list}
+use Rattle.table.proofs.Descent.{table-below, below-one}
 use denote.Ref.{now}
 use Rattle.table.proofs.build_table.Reads as build-table-contract
 
 -- Jobs have one table.
 pub table-one : (js : List Job) {xs ys : List (List Seconds)} → TableOf js xs → TableOf js ys → xs ≡ ys
-table-one js {xs} {ys} a b = rows-one-list js xs ys (a .rising) (b .rising) (into a b) (into b a)
-  where
-    into : {us ws : List (List Seconds)} → TableOf js us → TableOf js ws → Holds us ws
-    into p q ts m =
-        let s = p .some-budget ts m in
-        q .every-budget (s .0) ts (s .1) (s .2)
+table-one js a b = below-one (table-below a) (table-below b)
 
 pub built-one : (p : Profile) (old : List ℕ) {r s : Counted} {new other-new : List ℕ} → Built p old r new → Built p old s other-new → (r ≡ s) × (new ≡ other-new)
 built-one p old one other =

@@ -48,4 +48,5 @@ length-table js (ts ∷ rows) = length-append (tableRow (need js ts) ts) (tableB
 pub all-built : (p : Profile) (old : List ℕ) (count : ℕ) → verdictOf p ≡ Sound → count ≡ length (rowsOf p) → {v : Verdict} → v ≡ countVerdict count (length old) → v ≡ Sound
     → {new : List ℕ} → new ≡ tableBytes (jobsOf p) (rowsOf p) ++ drop (rowSize * count) old → Built p old (record { verdict = Sound; count = count }) new
 all-built p old count sound is told h e =
-    built p old (rows-put p _ _ old count sound is told h (length-table (jobsOf p) (rowsOf p)) (e ∙ ap (λ (k : ℕ). tableBytes (jobsOf p) (rowsOf p) ++ drop (rowSize * k) old) is))
+    let bytes = e ∙ ap (λ (k : ℕ). tableBytes (jobsOf p) (rowsOf p) ++ drop (rowSize * k) old) is in
+    built p old (rows-put p _ _ old count sound is told h (length-table (jobsOf p) (rowsOf p)) bytes)

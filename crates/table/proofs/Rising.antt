@@ -18,5 +18,6 @@ module _ (js : List Job) where
   rows-one-list = rising-one _ less-strict
 
   -- one row more, with a greater need than all
-  pub rising-snoc : (rows : List (List Seconds)) (ts : List Seconds) → StartsRise js rows → ((us : List Seconds) → List·Memᴰ us rows → need js us .0 < need js ts .0) → StartsRise js (rows ++ (ts ∷ []))
+  pub rising-snoc : (rows : List (List Seconds)) (ts : List Seconds) → StartsRise js rows
+      → ((us : List Seconds) → List·Memᴰ us rows → need js us .0 < need js ts .0) → StartsRise js (rows ++ (ts ∷ []))
   rising-snoc rows ts h last = rising-append _ rows (ts ∷ []) h (λ us m. absurd (List·Memᴰ·not-nil m), tt) (λ x y m n. rw (List·Memᴰ·eq-of-singleton n) (last x m))
