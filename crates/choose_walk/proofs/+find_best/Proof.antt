@@ -111,7 +111,7 @@ facts t c =
       less = ready-more r (tried .before .if1 .left);
       told = tried .to-try .ensures;
       up = c .before .before .before .loop .inv .1;
-      on = c .if2 .taken;
+      on = omega (arith, c .if2 .taken);
       absorbs = pick-absorbs _;
       good = tt;
     }

@@ -105,7 +105,7 @@ facts t c =
       less = ready-more r (tried .before .if1 .left);
       told = tried .to-try .ensures;
       up = c .before .before .before .loop .inv .1;
-      on = c .if2 .taken;
+      on = omega (arith, c .if2 .taken);
       absorbs = enter-absorbs most _ (omega arith);
       good = standing-ordered (c .before .before .before .loop .inv .0);
     }
