@@ -43,10 +43,10 @@ fn choose_sound(p: Profile, budget: PagesPerHour) -> Choice
     ensures { λ r. ⌜ Outcome (jobsOf p) budget r ⌝ }
 {
     let n = p.n as usize;
-    let spans = walk::spans_of(p);
-    let pages = walk::pages_of(p);
-    let rates = walk::rates_of(p);
-    let stiffnesses = walk::stiffnesses_of(p);
+    let spans = walk_arrays::spans_of(p);
+    let pages = walk_arrays::pages_of(p);
+    let rates = walk_arrays::rates_of(p);
+    let stiffnesses = walk_arrays::stiffnesses_of(p);
     let mut periods = [0u32; 8];
     let mut best = [0u64; 10];
     best[LOSS] = NO_PLAN;

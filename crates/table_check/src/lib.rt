@@ -17,7 +17,7 @@ pub fn first_bad_row(p: Profile, table: &[u8]) -> usize
     ensures { λ r. ⌜ Checked p (now (table .entry)) r ⌝ }
 {
     let n = p.n as usize;
-    let rates = walk::rates_of(p);
+    let rates = walk_arrays::rates_of(p);
     let rows = table.len() / ROW_SIZE;
     let mut start_before = PagesPerHour(0);
     let mut loss_before: u64 = 0;

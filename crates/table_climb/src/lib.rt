@@ -25,10 +25,10 @@ pub fn answers_under(p: Profile, budget: PagesPerHour, rows: &mut [u64; 768]) ->
     requires { ⌜ length (now rows) ≡ 768 ⌝ }
     ensures { λ r. ⌜ AnswersIn p budget r (now (rows .exit)) ⌝ }
 {
-    let spans = walk::spans_of(p);
-    let pages = walk::pages_of(p);
-    let rates = walk::rates_of(p);
-    let stiffnesses = walk::stiffnesses_of(p);
+    let spans = walk_arrays::spans_of(p);
+    let pages = walk_arrays::pages_of(p);
+    let rates = walk_arrays::rates_of(p);
+    let stiffnesses = walk_arrays::stiffnesses_of(p);
     next_answers(
         &spans,
         &pages,

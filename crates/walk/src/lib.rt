@@ -1,11 +1,9 @@
-// What every walk through the permitted lists shares: a profile's numbers as arrays, made once and lent, and the floors by
-// which a walk is cut.
+// What every walk through the permitted lists shares: the periods that a job may try, and the floors by which a walk is cut.
 //
 // specs/Chains.antt and specs/Walk.antt say what the walk is without its cuts, and proofs/ hold its laws, whatever a walk
-// keeps as it goes. specs/Arrays.antt and specs/Steps.antt say what these functions ask and promise; they serve other
-// crates of the planner, and their callers meet what they require. Nothing is assumed.
+// keeps as it goes. specs/Arrays.antt says how a profile's numbers are lent, and specs/Steps.antt what these functions ask and
+// promise; they serve other crates of the planner, and their callers meet what they require. Nothing is assumed.
 use model::PagesPerHour;
-use model::Profile;
 use model::Seconds;
 ghost use mathlib.Core.Path.{_≡_};
 ghost use mathlib.Core.Bool.{true, false};
@@ -13,75 +11,8 @@ ghost use Prim.Native.Nat.{_+_, _*_, _/_, _≤_, _<_, max};
 ghost use lib.ListN.{getD};
 ghost use Rattle.model.specs.Model.{pagesPerHour};
 ghost use Rattle.model.specs.Most.{mostNeed, mostLoss};
-ghost use Rattle.model.specs.Valid.{Valid};
 ghost use Rattle.step.specs.Step.{needAt, NeedFits};
-ghost use Rattle.walk.specs.Arrays.{SpansFrom, PagesFrom, RatesFrom, StiffnessesFrom};
 ghost use Rattle.walk.specs.Steps.{lossHeld, LossHeldFits, triesHeld, MayTry, Ends, Unreached, PassedOver, Repeats, Later, IsLossFloor};
-
-// The shortest periods of the jobs, then the longest.
-pub fn spans_of(p: Profile) -> [u32; 16]
-    requires { ⌜ Valid p ⌝ }
-    ensures { λ r. ⌜ SpansFrom p 0 r ⌝ }
-{
-    let mut spans = [0u32; 16];
-    let mut k = p.n as usize;
-    while 0 < k {
-        k -= 1;
-        let j = p.jobs[k];
-        spans[k] = j.lo.0;
-        spans[8 + k] = j.hi.0;
-    }
-    spans
-}
-
-// The pages of a run that need counts, then those that loss counts.
-pub fn pages_of(p: Profile) -> [u32; 16]
-    requires { ⌜ Valid p ⌝ }
-    ensures { λ r. ⌜ PagesFrom p 0 r ⌝ }
-{
-    let mut pages = [0u32; 16];
-    let mut k = p.n as usize;
-    while 0 < k {
-        k -= 1;
-        let j = p.jobs[k];
-        pages[k] = step::need_pages(j);
-        pages[8 + k] = step::loss_pages(j);
-    }
-    pages
-}
-
-// The rates at the shortest periods, then what the jobs from each place on need at least.
-pub fn rates_of(p: Profile) -> [u32; 17]
-    requires { ⌜ Valid p ⌝ }
-    ensures { λ r. ⌜ RatesFrom p 0 r ⌝ }
-{
-    let mut rates = [0u32; 17];
-    let mut needs: u32 = 0;
-    let mut k = p.n as usize;
-    while 0 < k {
-        k -= 1;
-        let j = p.jobs[k];
-        rates[k] = step::fastest_rate(j).0;
-        needs = step::hourly_rate(step::need_pages(j), j.hi).0 + needs;
-        rates[8 + k] = needs;
-    }
-    rates
-}
-
-// The stiffnesses of the jobs.
-pub fn stiffnesses_of(p: Profile) -> [u32; 8]
-    requires { ⌜ Valid p ⌝ }
-    ensures { λ r. ⌜ StiffnessesFrom p 0 r ⌝ }
-{
-    let mut stiffnesses = [0u32; 8];
-    let mut k = p.n as usize;
-    while 0 < k {
-        k -= 1;
-        let j = p.jobs[k];
-        stiffnesses[k] = j.stiffness;
-    }
-    stiffnesses
-}
 
 // The periods that a job may try after one of `step` seconds: from `first` to `last`, each a step above the one before; none
 // where `last` is below `first`.

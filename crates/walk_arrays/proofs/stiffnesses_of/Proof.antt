@@ -1,13 +1,13 @@
--- `walk::stiffnesses_of` meets its contract: before each turn the jobs from place k on are in.
+-- `walk_arrays::stiffnesses_of` meets its contract: before each turn the jobs from place k on are in.
 -- Assumes nothing.
 use mathlib.Core.Path.{_≡_}
 use Prim.Native.Nat.{_≤_}
 use Rattle.walk.specs.Arrays.{StiffnessesFrom}
 use Rattle.walk.proofs.Filled.{stiffnesses-none, stiffnesses-more}
 use borrow.Author.Needs.{needs}
 use native.Mathlib.Omega.{arith}
-use Rattle.walk.proofs.stiffnesses_of.Statement.{statement}
-use Rattle.walk.proofs.stiffnesses_of.Tie as tie
+use Rattle.walk_arrays.proofs.stiffnesses_of.Statement.{statement}
+use Rattle.walk_arrays.proofs.stiffnesses_of.Tie as tie
 
 abbrev Inv-loop : tie.InvT-loop
 Inv-loop p stiffnesses₀ k₀ stiffnesses k = (k ≤ p .n) × StiffnessesFrom p k stiffnesses

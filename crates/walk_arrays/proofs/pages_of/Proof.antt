@@ -1,13 +1,13 @@
--- `walk::pages_of` meets its contract: before each turn the jobs from place k on are in.
+-- `walk_arrays::pages_of` meets its contract: before each turn the jobs from place k on are in.
 -- Assumes nothing.
 use mathlib.Core.Path.{_≡_}
 use Prim.Native.Nat.{_-_, _≤_}
 use Rattle.walk.specs.Arrays.{PagesFrom}
 use Rattle.walk.proofs.Filled.{valid-at, halves-none, halves-more}
 use borrow.Author.Needs.{needs}
 use native.Mathlib.Omega.{arith}
-use Rattle.walk.proofs.pages_of.Statement.{statement}
-use Rattle.walk.proofs.pages_of.Tie as tie
+use Rattle.walk_arrays.proofs.pages_of.Statement.{statement}
+use Rattle.walk_arrays.proofs.pages_of.Tie as tie
 
 abbrev Inv-loop : tie.InvT-loop
 Inv-loop p pages₀ k₀ pages k = (k ≤ p .n) × PagesFrom p k pages

@@ -1,13 +1,13 @@
--- `walk::spans_of` meets its contract: before each turn the jobs from place k on are in.
+-- `walk_arrays::spans_of` meets its contract: before each turn the jobs from place k on are in.
 -- Assumes nothing.
 use mathlib.Core.Path.{_≡_, refl}
 use Prim.Native.Nat.{_≤_}
 use Rattle.walk.specs.Arrays.{SpansFrom}
 use Rattle.walk.proofs.Filled.{halves-none, halves-more}
 use borrow.Author.Needs.{needs}
 use native.Mathlib.Omega.{arith}
-use Rattle.walk.proofs.spans_of.Statement.{statement}
-use Rattle.walk.proofs.spans_of.Tie as tie
+use Rattle.walk_arrays.proofs.spans_of.Statement.{statement}
+use Rattle.walk_arrays.proofs.spans_of.Tie as tie
 
 abbrev Inv-loop : tie.InvT-loop
 Inv-loop p spans₀ k₀ spans k = (k ≤ p .n) × SpansFrom p k spans

@@ -1,4 +1,4 @@
--- `walk::rates_of` meets its contract: before each turn the jobs from place k on are in, and the sum is what they need at least.
+-- `walk_arrays::rates_of` meets its contract: before each turn the jobs from place k on are in, and the sum is what they need at least.
 -- Assumes nothing.
 use mathlib.Core.Path.{_≡_, sym, ap}
 use mathlib.Core.List.{List}
@@ -7,12 +7,12 @@ use Rattle.model.specs.declared.PagesPerHour.{PagesPerHour}
 use Rattle.model.specs.declared.Profile.{Profile}
 use Rattle.model.specs.Valid.{ValidJob}
 use Rattle.model.proofs.Bounds.{load-bound}
 use Rattle.walk.specs.Arrays.{jobAt, needsFrom, RatesFrom}
 use Rattle.walk.proofs.Filled.{valid-at, needs-to, needs-none, needs-more, rates-none, halves-more}
 use borrow.Author.Needs.{needs}
 use native.Mathlib.Omega.{arith}
-use Rattle.walk.proofs.rates_of.Statement.{statement}
-use Rattle.walk.proofs.rates_of.Tie as tie
+use Rattle.walk_arrays.proofs.rates_of.Statement.{statement}
+use Rattle.walk_arrays.proofs.rates_of.Tie as tie
 
 record Rated (p : Profile) (rates : List ℕ) (needs k : ℕ) : Type 0 where
   upto : k ≤ p .n
