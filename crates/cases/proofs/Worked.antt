@@ -30,7 +30,11 @@ use Rattle.cases.proofs.Anew.{choiceFor, readingFor, counted, after, ro
 
 -- Computing every answer of a list anew gives the same list. To unfold this is to unfold all that is computed with.
 unfoldable pub Computed : List Case → Type 0
-unfolding anew readingFor verdictOfBytes judgeHeader headerOf recordsIn judgeRecord profileBytes recordBytes chainsBy choiceFor scoreFor counted after roomy settle walkBy visit pick lessNeed beats multiples risingFrom climbTo multiplesDown fallingFrom descendTo inTurn load cost rate jobLoss entries verdictOf refuseIf orElse ifSound firstRefused judgeIntervalAndStiffness judgeJob need loss pagesIn lastOf scoredBy firstUnpermitted judgePeriod zonesIn zonesBelow unlessEmpty flatMap rowsOf recut pack unpack bits tableBytes tableRow descent upTo locateFor findFor wholeRows firstBad rowGood permits zerosFrom afterGood allows rowFields lastWithin
+unfolding anew readingFor verdictOfBytes judgeHeader headerOf recordsIn judgeRecord profileBytes recordBytes chainsBy choiceFor scoreFor counted after
+    roomy settle walkBy visit pick lessNeed beats multiples risingFrom climbTo multiplesDown fallingFrom descendTo inTurn load cost rate jobLoss entries
+    verdictOf refuseIf orElse ifSound firstRefused judgeIntervalAndStiffness judgeJob need loss pagesIn lastOf scoredBy firstUnpermitted judgePeriod
+    zonesIn zonesBelow unlessEmpty flatMap rowsOf recut pack unpack bits tableBytes tableRow descent upTo locateFor findFor wholeRows firstBad rowGood
+    permits zerosFrom afterGood allows rowFields lastWithin
 Computed cs = map anew cs ≡ cs
 
 same-head : {A : Type 0} {x y : A} {xs ys : List A} → x ∷ xs ≡ y ∷ ys → x ≡ y

@@ -12,7 +12,8 @@ use Rattle.model.specs.ProfileA.{bytesA}
 use Rattle.score.specs.Scoring.{noScore}
 use Rattle.choose.specs.Choice.{noChoice}
 use Rattle.table_lookup.specs.Lookup.{noRow}
-use Rattle.cases.specs.Case.{Case, reading, writing, writingIn, permitting, scoring, choosing, listing, listingIn, building, buildingIn, lookingUp, job, interval, profile, values, noValues, eight, plan, scored, below, number, lent, rows}
+use Rattle.cases.specs.Case.{Case, reading, writing, writingIn, permitting, scoring, choosing, listing, listingIn, building, buildingIn, lookingUp}
+use Rattle.cases.specs.Case.{job, interval, profile, values, noValues, eight, plan, scored, below, number, lent, rows}
 
 -- The profile that document 01 works with, as values; its bytes stand in model.
 abbrev pub jobsA : List Job

@@ -5,9 +5,15 @@ use mathlib.Core.List.{List, [], _∷_, _++_, append-nil}
 use Prim.Native.Nat.{ℕ, zero, suc, _+_, _-_, _≤_, _<_}
 use native.Mathlib.Nat.{zero-add, add-zero, not-suc-le-zero, le-of-suc-le-suc}
 use native.Mathlib.Omega.{arith}
-use lib.ListN.{length, getD, length-append}
+use lib.ListN.{length, getD, replicate, length-append}
 use lib.Seq.{getD-append-seam, append-snoc}
 use Rattle.model.specs.Model.{entries}
+
+-- zeros, wherever they are looked at
+pub getD-zeros : (m k : ℕ) → _≡_ {A = ℕ} (getD (replicate m 0) k 0) 0
+getD-zeros zero k = refl
+getD-zeros (suc m) zero = refl
+getD-zeros (suc m) (suc k) = getD-zeros m k
 
 module _ {A : Type 0} (d : A) (xs : List A) (k n : ℕ) where
   pub entries-step : k < n → entries d xs k (n - k) ≡ getD xs k d ∷ entries d xs (k + 1) (n - (k + 1))
@@ -52,10 +58,11 @@ entries-between : {A : Type 0} (d : A) (xs ys zs : List A) → entries d (xs ++ 
 unfolding entries
 entries-between d xs [] zs = refl
 entries-between d xs (y ∷ ys) zs =
-    let passed : length (xs ++ (y ∷ [])) ≡ length xs + 1 = length-append xs (y ∷ []) in
-    ap₂ _∷_
-    (getD-append-seam xs y (ys ++ zs) d)
-    (ap (λ (k : ℕ). entries d (xs ++ (y ∷ (ys ++ zs))) k (length ys)) (sym passed) ∙ ap (λ (l : List _). entries d l (length (xs ++ (y ∷ []))) (length ys)) (sym (append-snoc xs y (ys ++ zs))) ∙ entries-between d (xs ++ (y ∷ [])) ys zs)
+    let front = xs ++ (y ∷ []) in
+    let passed : length front ≡ length xs + 1 = length-append xs (y ∷ []) in
+    let at = ap (λ (k : ℕ). entries d (xs ++ (y ∷ (ys ++ zs))) k (length ys)) (sym passed) in
+    let joined = ap (λ (l : List _). entries d l (length front) (length ys)) (sym (append-snoc xs y (ys ++ zs))) in
+    ap₂ _∷_ (getD-append-seam xs y (ys ++ zs) d) (at ∙ joined ∙ entries-between d front ys zs)
 
 pub entries-front : {A : Type 0} (d : A) (ys zs : List A) → entries d (ys ++ zs) 0 (length ys) ≡ ys
 entries-front d ys zs = entries-between d [] ys zs

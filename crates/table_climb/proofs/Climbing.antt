@@ -11,6 +11,7 @@ use lib.ListN.{length, getD, set, replicate, length-set}
 use lib.Seq.{getD-set-same, getD-set-other}
 use Rattle.model.specs.declared.PagesPerHour.{PagesPerHour}
 use Rattle.model.specs.Model.{seconds}
+use Rattle.model.proofs.Entries.{getD-zeros}
 use Rattle.table_stairs.specs.Stairs.{Stair, Stairs, noBound}
 use Rattle.table_stairs.specs.Rows.{stairAt, rowsFrom, stairsOf, Rises, Standing}
 use Rattle.table_climb.specs.Steps.{Climbs, Collects}
@@ -68,16 +69,11 @@ period-set {n} {i} {t} {ps} {flat} {marks} few less hour s =
         go (no d) = omega (arith, getD-set-other ps i k t 0 d, s .periods .to k)
 
 -- before the walk: no row, and no period
-zeros : (m k : ℕ) → _≡_ {A = ℕ} (getD (replicate m 0) k 0) 0
-zeros zero k = refl
-zeros (suc m) zero = refl
-zeros (suc m) (suc k) = zeros m k
-
 pub none-stand : (n : ℕ) {flat : List ℕ} → length flat ≡ 768 → Standing n (replicate 8 0) flat (0 ∷ (noBound ∷ []))
 none-stand n size =
     record {
-      periods = record { size = refl; to = λ k. omega (arith, zeros 8 k) };
-      blank = λ k from. zeros 8 k;
+      periods = record { size = refl; to = λ k. omega (arith, getD-zeros 8 k) };
+      blank = λ k from. getD-zeros 8 k;
       rows-size = size;
       marks-size = refl;
       count-to = zero-le;

@@ -4,20 +4,18 @@
 use mathlib.Core.Path.{_≡_, refl, sym, _∙_, ap, ap₂, subst}
 use mathlib.Core.Logic.{_↔_}
 use mathlib.Core.List.{List, [], _∷_, head-eq-of-cons-eq, tail-eq-of-cons-eq}
-use Prim.Native.Nat.{ℕ, zero, suc, _*_, _/_, _%_, _≤_}
+use Prim.Native.Nat.{ℕ, zero, suc, _*_, _/_, _≤_}
 use native.Mathlib.Omega.{arith}
-use native.Mathlib.Nat.{le-refl, mul-assoc, mul-mod-left, div-add-mod', mul-div-cancel, mod-one, suc-ne-zero}
+use native.Mathlib.Nat.{le-refl, mul-assoc, mul-mod-left, mul-div-cancel, mod-one, suc-ne-zero}
 use lib.ListN.{length, getD}
 use Rattle.model.specs.declared.Seconds.{Seconds}
 use Rattle.model.specs.declared.Job.{Job}
 use Rattle.model.specs.Model.{seconds, PermittedAfter, Permitted}
 use Rattle.model.specs.Valid.{ValidJobs}
+use Rattle.model.proofs.Rounding.{multiple-is}
 use Rattle.zone_walk.specs.Zone.{Zone}
 use Rattle.zones.specs.Zones.{periodsFor, IsZone}
 use Rattle.zones.specs.Multipliers.{MultiplesAfter, InIntervals, ByMultipliers}
-
-multiple-is : (t p : ℕ) → t % p ≡ 0 → t ≡ t / p * p
-multiple-is t p e = let d = div-add-mod' t p in omega arith
 
 pub as-many : (js : List Job) (more : List ℕ) (t : ℕ) → InIntervals js more t → length more ≡ length js
 as-many [] [] t h = refl

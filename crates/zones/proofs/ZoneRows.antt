@@ -3,13 +3,13 @@
 use mathlib.Core.Path.{_≡_, refl, sym, _∙_, ap, ap₂, subst}
 use mathlib.Core.Bool.{Bool, true, false}
 use mathlib.Core.List.{List, [], _∷_, _++_, append-assoc, append-nil, flatMap}
-use Prim.Native.Nat.{ℕ, zero, suc, _+_, _*_, _-_, _/_, _^_, _≤_, _<_}
+use Prim.Native.Nat.{ℕ, _+_, _*_, _-_, _/_, _^_, _≤_, _<_}
 use native.Mathlib.Omega.{arith}
 use native.Mathlib.Decide.{decLt}
 use lib.ListN.{length, getD, take, drop, replicate, length-append, length-take, length-drop, List·getD-eq-default, take-append-drop}
 use lib.Seq.{getD-take, getD-drop, take-at, drop-at, drop-drop, drop-append-add, append-snoc, length-take-le}
 use Rattle.model.specs.Model.{entries, rowSize}
-use Rattle.model.proofs.Entries.{entries-same}
+use Rattle.model.proofs.Entries.{getD-zeros, entries-same}
 use Rattle.codec.specs.Packing.{bits, pack, recut}
 use Rattle.codec.specs.Layout.{byteWidths}
 use Rattle.codec.specs.RowWords.{rowBytes, withRow}
@@ -20,11 +20,6 @@ use Rattle.zones.specs.Zones.{zoneWidths, zoneFields, rowsOf}
 use Rattle.zone_walk.specs.Listing.{Walk, leastLeft, greatestLeft, after, current, coming, Opens, WentOn}
 use Rattle.zones.specs.ZoneRows.{Wrote, RowNumbers, highWord, lowWord}
 use Rattle.zones.proofs.Coming.{coming-true, coming-false}
-
-getD-zeros : (k j : ℕ) → _≡_ {A = ℕ} (getD (replicate k 0) j 0) 0
-getD-zeros zero j = refl
-getD-zeros (suc k) zero = refl
-getD-zeros (suc k) (suc j) = getD-zeros k j
 
 -- numbers of which all from place n on are zeros
 module _ (n : ℕ) (ms : List ℕ) (beyond : drop n ms ≡ drop n (replicate 8 0)) where

@@ -22,7 +22,9 @@ returns c =
     let a = c .before .before .before .args in
     let g = c .before .get-row in
     let small : g .result .low < 2 ^ 64 = omega arith in
-    ap pagesPerHour (c .start-of .ensures ∙ ap (λ (w : RowWords). wordStart (w .high)) (g .ensures) ∙ start-of-words (a .table .now) (a .k) (c .before .before .before .pre) (subst (λ (w : RowWords). w .low < 2 ^ 64) (g .ensures) small))
+    let own-small = subst (λ (w : RowWords). w .low < 2 ^ 64) (g .ensures) small in
+    let told = ap (λ (w : RowWords). wordStart (w .high)) (g .ensures) in
+    ap pagesPerHour (c .start-of .ensures ∙ told ∙ start-of-words (a .table .now) (a .k) (c .before .before .before .pre) own-small)
 
 pub start-at-spec : {M : Type 1} → statement M
 start-at-spec = tie.close (tie.spec get-row-requires start-of-requires returns)
