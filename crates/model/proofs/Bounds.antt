@@ -46,9 +46,9 @@ job-loss-bound j t v =
 pub eight-losses : (l k : ℕ) → l ≤ mostLoss * k → k ≤ 8 → l < 2 ^ 64
 eight-losses l k h few = omega arith
 
--- k jobs that write at most 65,534 pages each in every second of `span` need at most k times the most
-pub need-bound : (pages span k : ℕ) → 1 ≤ span → pages ≤ mostPages * span * k → roundUp (3600 * pages) span ≤ mostRate * k
-need-bound pages span k pos h = round-up-le (3600 * pages) (mostRate * k) pos .1 (omega arith)
+-- k jobs that write at most 65,534 pages each in every second of `cycle` need at most k times the most
+pub need-bound : (pages cycle k : ℕ) → 1 ≤ cycle → pages ≤ mostPages * cycle * k → roundUp (3600 * pages) cycle ≤ mostRate * k
+need-bound pages cycle k pos h = round-up-le (3600 * pages) (mostRate * k) pos .1 (omega arith)
 
 -- a rate falls as the period grows
 pub rate-falls : (j : Job) {t u : Seconds} → 1 ≤ t .0 → t .0 ≤ u .0 → rate j u .0 ≤ rate j t .0

@@ -80,11 +80,11 @@ unfoldable pub lastOf : Seconds → List Seconds → Seconds
 lastOf before [] = before
 lastOf before (t ∷ ts) = lastOf t ts
 
--- The pages that jobs at these periods write in `span` seconds, a multiple of every period (Quantities: need).
+-- The pages that jobs at these periods write in `cycle` seconds, a multiple of every period (Quantities: need).
 unfoldable pub pagesIn : Seconds → List Job → List Seconds → ℕ
-pagesIn span [] ts = 0
-pagesIn span (j ∷ js) [] = 0
-pagesIn span (j ∷ js) (t ∷ ts) = load j * (span .0 / t .0) + pagesIn span js ts
+pagesIn cycle [] ts = 0
+pagesIn cycle (j ∷ js) [] = 0
+pagesIn cycle (j ∷ js) (t ∷ ts) = load j * (cycle .0 / t .0) + pagesIn cycle js ts
 
 -- A fraction rounded up to a whole number; over 0 it is 0, but no permitted period of a valid profile is 0.
 abbrev pub roundUp : ℕ → ℕ → ℕ

@@ -9,7 +9,7 @@ use Rattle.model.specs.declared.Job.{Job}
 use Rattle.model.specs.Model.{seconds, load, Allowed, jobLoss}
 use Rattle.model.specs.Most.{mostPages, mostRate}
 use Rattle.model.specs.Valid.{ValidJob}
-use Rattle.model.proofs.Bounds.{load-bound, job-loss-bound, need-bound as span-need-bound}
+use Rattle.model.proofs.Bounds.{load-bound, job-loss-bound, need-bound as cycle-need-bound}
 use Rattle.model.proofs.Rounding.{multiple-is}
 use Rattle.step.specs.Step.{carried, needAt, NeedFits, Bounded}
 
@@ -31,7 +31,7 @@ module _ {i : ℕ} {before : Seconds} {written lost : ℕ} (h : Bounded i before
   -- for eight jobs 1,887,379,200
   pub need-bound : 1 ≤ before .0 → needAt written before ≤ mostRate * i
   unfolding needAt
-  need-bound pos = span-need-bound written (before .0) i pos (let p = h .pages-to in omega arith)
+  need-bound pos = cycle-need-bound written (before .0) i pos (let p = h .pages-to in omega arith)
 
   -- the pages of eight jobs are few enough to be carried on
   pub bounded-fits : i ≤ 8 → 1 ≤ before .0 → before .0 ≤ 3600 → NeedFits written before

@@ -51,8 +51,8 @@ pub fn need_of(written: u64, t: Seconds) -> PagesPerHour
     requires { ⌜ NeedFits written t ⌝ }
     ensures { λ r. ⌜ r ≡ pagesPerHour (needAt written t) ⌝ }
 {
-    let span = t.0 as u64;
-    PagesPerHour(((3600 * written + (span - 1)) / span) as u32)
+    let cycle = t.0 as u64;
+    PagesPerHour(((3600 * written + (cycle - 1)) / cycle) as u32)
 }
 
 // The hourly rate of so many pages in every t seconds.

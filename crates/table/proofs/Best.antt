@@ -69,20 +69,20 @@ some-best js b us v h fits = go (walk (pick (b .0)) js start nothing) (walk-best
     go nothing none-fits = absurd (none-fits us h fits)
     go (found q l ts) k = (ts, k .best)
 
-pages-bound : (span : Seconds) (js : List Job) (ts : List Seconds) → ValidJobs js → pagesIn span js ts ≤ mostPages * span .0 * length js
+pages-bound : (cycle : Seconds) (js : List Job) (ts : List Seconds) → ValidJobs js → pagesIn cycle js ts ≤ mostPages * cycle .0 * length js
 unfolding pagesIn
-pages-bound span [] ts v = omega arith
-pages-bound span (j ∷ js) [] v = omega arith
-pages-bound span (j ∷ js) (t ∷ ts) v =
-    let here : load j * (span .0 / t .0) ≤ mostPages * span .0 = mul-le-mul (load-bound j (v .0)) (div-le-self (span .0) (t .0)) in
-    omega (arith, pages-bound span js ts (v .1))
+pages-bound cycle [] ts v = omega arith
+pages-bound cycle (j ∷ js) [] v = omega arith
+pages-bound cycle (j ∷ js) (t ∷ ts) v =
+    let here : load j * (cycle .0 / t .0) ≤ mostPages * cycle .0 = mul-le-mul (load-bound j (v .0)) (div-le-self (cycle .0) (t .0)) in
+    omega (arith, pages-bound cycle js ts (v .1))
 
 -- Every permitted list of at most eight jobs fits some 32-bit budget.
 pub need-small : (js : List Job) (ts : List Seconds) → ValidJobs js → length js ≤ 8 → Permitted js ts → need js ts .0 < 2 ^ 32
 unfolding need
 need-small js ts v few h =
-    let span = lastOf (seconds 1) ts in
-    let most = need-bound (pagesIn span js ts) (span .0) (length js) (last-positive (seconds 1) js ts v (le-refl 1) h) (pages-bound span js ts v) in
+    let cycle = lastOf (seconds 1) ts in
+    let most = need-bound (pagesIn cycle js ts) (cycle .0) (length js) (last-positive (seconds 1) js ts v (le-refl 1) h) (pages-bound cycle js ts v) in
     omega arith
 
 -- the rows of a table

@@ -24,7 +24,7 @@ spanOf j = record { shortest = j .lo .0; longest = j .hi .0 }
 abbrev pub firstMultiplier : Span → ℕ → ℕ → ℕ
 firstMultiplier s greatest a = roundUp (s .shortest) (a * greatest) * a
 
--- What is left of a range when m times a first period must be in the span too.
+-- What is left of a range when m times a first period must be in its interval too.
 abbrev pub leastFor : Span → ℕ → ℕ → ℕ
 leastFor s least m = max least (roundUp (s .shortest) m)
 

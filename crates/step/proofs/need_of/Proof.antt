@@ -8,8 +8,8 @@ use native.Mathlib.Omega.{arith}
 use Rattle.step.proofs.need_of.Statement.{statement}
 use Rattle.step.proofs.need_of.Tie as tie
 
-cast-span : tie.Need-cast-span
-cast-span c = search needs
+cast-cycle : tie.Need-cast-cycle
+cast-cycle c = search needs
 
 mul-t4 : tie.Need-mul-t4
 mul-t4 c = search needs
@@ -32,4 +32,4 @@ unfolding needAt
 returns c = refl
 
 pub need-of-spec : {M : Type 1} → statement M
-need-of-spec = tie.close (tie.spec cast-span mul-t4 sub-t5 add-t6 div-t7 cast-t8 returns)
+need-of-spec = tie.close (tie.spec cast-cycle mul-t4 sub-t5 add-t6 div-t7 cast-t8 returns)
