@@ -41,7 +41,7 @@ def as_answer(verdict, refused, sound):
 
 
 def as_count(verdict, count):
-    return as_answer(verdict, "noRow", f"number {count}")
+    return as_answer(verdict, "noCount", f"number {count}")
 
 
 # What is asked about. Permitted lists are few, so that the checker computes every case in a moment.
@@ -244,7 +244,7 @@ use Rattle.model.specs.declared.Verdict.the-variants.{{{", ".join(v.strip("(){}
 use Rattle.model.specs.Model.{{seconds}}
 use Rattle.score.specs.Scoring.{{noScore}}
 use Rattle.choose.specs.Choice.{{noChoice}}
-use Rattle.table_lookup.specs.Lookup.{{noRow}}
+use Rattle.table_lookup.specs.Lookup.{{noCount}}
 use Rattle.cases.specs.Case.{{Case, Right, {", ".join(KINDS)}, job, values, noValues, plan, scored, below, number}}
 use Rattle.cases.proofs.Worked.{{Computed, all-right}}
 """

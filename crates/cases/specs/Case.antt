@@ -97,7 +97,7 @@ scored q l = record { verdict = Sound; need = pagesPerHour q; loss = l }
 abbrev pub below : ℕ → Verdict
 below m = Budget (pagesPerHour m)
 
--- A number of rows or of bytes written, or of the row that answers. Beside a refusal there is none, `noRow`.
+-- A number of rows or of bytes written, or of the row that answers. Beside a refusal there is none, `noCount`.
 abbrev pub number : ℕ → Counted
 number k = record { verdict = Sound; count = k }
 

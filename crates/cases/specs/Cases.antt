@@ -11,7 +11,7 @@ use Rattle.model.specs.Model.{seconds}
 use Rattle.model.specs.ProfileA.{bytesA}
 use Rattle.score.specs.Scoring.{noScore}
 use Rattle.choose.specs.Choice.{noChoice}
-use Rattle.table_lookup.specs.Lookup.{noRow}
+use Rattle.table_lookup.specs.Lookup.{noCount}
 use Rattle.cases.specs.Case.{Case, reading, writing, writingIn, permitting, scoring, choosing, listing, listingIn, building, buildingIn, lookingUp}
 use Rattle.cases.specs.Case.{job, interval, profile, values, noValues, eight, plan, scored, below, number, lent, rows}
 
@@ -107,12 +107,12 @@ cases =
     ∷ reading (take 9 bytesA ++ (0xFF ∷ drop 10 bytesA)) (noValues (Interval 2))
     ∷ reading (take 24 bytesA ++ (0x11 ∷ [])) (noValues (Spare 3))
     -- room too small, for A's bytes, zones and table: nothing is written
-    ∷ writingIn profileA (lent 24) (noRow (Room 25)) (lent 24)
-    ∷ listingIn profileA (lent 47) (noRow (Room 3)) (lent 47)
-    ∷ buildingIn profileA (lent 128) (noRow (Room 9)) (lent 128)
+    ∷ writingIn profileA (lent 24) (noCount (Room 25)) (lent 24)
+    ∷ listingIn profileA (lent 47) (noCount (Room 3)) (lent 47)
+    ∷ buildingIn profileA (lent 128) (noCount (Room 9)) (lent 128)
     -- P1
     ∷ choosing profileA 4319 (noChoice (below 4320))
-    ∷ lookingUp profileA tableA 4319 (noRow (below 4320)) []
+    ∷ lookingUp profileA tableA 4319 (noCount (below 4320)) []
     -- P2
     ∷ choosing profileA 4320 (plan 4320 3281956 (25 ∷ 50 ∷ 100 ∷ []))
     ∷ lookingUp profileA tableA 4320 (number 1) (rows (row₁ ∷ []))
@@ -132,8 +132,8 @@ cases =
     ∷ listing oneList (number 1) (rows ((0x00 ∷ 0x10 ∷ 0x01 ∷ 0x00 ∷ 0x50 ∷ 0x23 ∷ []) ∷ []))
     -- P7
     ∷ choosing (profile (interval 1 1 ∷ interval 2 4 ∷ interval 35 35 ∷ [])) 0xffff_ffff (noChoice NoPeriods)
-    ∷ listing (profile (interval 1 1 ∷ interval 2 4 ∷ interval 35 35 ∷ [])) (noRow NoPeriods) []
-    ∷ building (profile (interval 1 1 ∷ interval 2 4 ∷ interval 35 35 ∷ [])) (noRow NoPeriods) []
+    ∷ listing (profile (interval 1 1 ∷ interval 2 4 ∷ interval 35 35 ∷ [])) (noCount NoPeriods) []
+    ∷ building (profile (interval 1 1 ∷ interval 2 4 ∷ interval 35 35 ∷ [])) (noCount NoPeriods) []
     -- P8
     ∷ choosing atSeven 514 (noChoice (below 515))
     ∷ choosing atSeven 515 (plan 515 0 (7 ∷ []))
@@ -161,9 +161,9 @@ cases =
     ∷ lookingUp profileA (rows (row₁ ∷ row₂ ∷ [])) 4500 (number 2) (rows (row₂ ∷ []))
     ∷ lookingUp profileA (rows (row₁ ∷ row₂ ∷ [])) 0xffff_ffff (number 2) (rows (row₂ ∷ []))
     -- tables that are not well formed: no bytes, a row cut short, falling starts, a row twice, a row of zeros
-    ∷ lookingUp profileA [] 4320 (noRow (Row 0)) []
-    ∷ lookingUp profileA (take 31 (rows (row₁ ∷ row₂ ∷ []))) 4320 (noRow (Row 0)) []
-    ∷ lookingUp profileA (rows (row₂ ∷ row₁ ∷ [])) 4500 (noRow (Row 2)) []
-    ∷ lookingUp profileA (rows (row₁ ∷ row₁ ∷ [])) 4320 (noRow (Row 2)) []
-    ∷ lookingUp profileA (rows ([] ∷ [])) 4320 (noRow (Row 1)) []
+    ∷ lookingUp profileA [] 4320 (noCount (Row 0)) []
+    ∷ lookingUp profileA (take 31 (rows (row₁ ∷ row₂ ∷ []))) 4320 (noCount (Row 0)) []
+    ∷ lookingUp profileA (rows (row₂ ∷ row₁ ∷ [])) 4500 (noCount (Row 2)) []
+    ∷ lookingUp profileA (rows (row₁ ∷ row₁ ∷ [])) 4320 (noCount (Row 2)) []
+    ∷ lookingUp profileA (rows ([] ∷ [])) 4320 (noCount (Row 1)) []
     ∷ []

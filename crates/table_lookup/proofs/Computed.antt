@@ -20,7 +20,7 @@ use Rattle.table_row.specs.Table.{rowsIn, startAt}
 use Rattle.table_check.specs.Formed.{GoodRow, WholeRows, WellFormed}
 use Rattle.table_check.specs.Checks.{Checked, all-good, first-bad}
 use Rattle.table_check.proofs.Tests.{firstBad, bad-computed}
-use Rattle.table_lookup.specs.Lookup.{noRow, Finds, wrong-length, bad-row, below-first, answering, Locates}
+use Rattle.table_lookup.specs.Lookup.{noCount, Finds, wrong-length, bad-row, below-first, answering, Locates}
 use Rattle.table_lookup.proofs.Finding.{lastWithin, last-answers}
 
 -- what the number of the first bad row says
@@ -28,7 +28,7 @@ pub none-bad : {p : Profile} {bytes : List ℕ} {r : ℕ} → Checked p bytes r 
 none-bad (all-good good) h = good
 none-bad (first-bad f) h = absurd (omega arith)
 
-pub bad-named : {p : Profile} {bytes : List ℕ} {b : PagesPerHour} {r : ℕ} → Checked p bytes r → 0 < r → WholeRows bytes → Finds p bytes b (noRow (Row r))
+pub bad-named : {p : Profile} {bytes : List ℕ} {b : PagesPerHour} {r : ℕ} → Checked p bytes r → 0 < r → WholeRows bytes → Finds p bytes b (noCount (Row r))
 bad-named (all-good good) h w = absurd (omega arith)
 bad-named (first-bad f) h w = bad-row w f
 
@@ -44,12 +44,12 @@ unfoldable pub findFor : Profile → List ℕ → PagesPerHour → Counted
 findFor p bytes b =
     cond (wholeRows bytes)
     (cond (ltb 0 (firstBad p bytes 0 (rowsIn bytes)))
-    (noRow (Row (firstBad p bytes 0 (rowsIn bytes))))
-    (cond (ltb (b .0) (startAt bytes 0 .0)) (noRow (Budget (startAt bytes 0))) (record { verdict = Sound; count = lastWithin bytes b (rowsIn bytes) + 1 })))
-    (noRow (Row 0))
+    (noCount (Row (firstBad p bytes 0 (rowsIn bytes))))
+    (cond (ltb (b .0) (startAt bytes 0 .0)) (noCount (Budget (startAt bytes 0))) (record { verdict = Sound; count = lastWithin bytes b (rowsIn bytes) + 1 })))
+    (noCount (Row 0))
 
 unfoldable pub locateFor : Profile → List ℕ → PagesPerHour → Counted
-locateFor p bytes b = ifSound (verdictOf p) (findFor p bytes b) (noRow (verdictOf p))
+locateFor p bytes b = ifSound (verdictOf p) (findFor p bytes b) (noCount (verdictOf p))
 
 module _ (p : Profile) (bytes : List ℕ) (b : PagesPerHour) where
   whole-only : wholeRows bytes ≡ true → WholeRows bytes
@@ -79,7 +79,7 @@ module _ (p : Profile) (bytes : List ℕ) (b : PagesPerHour) where
       last = record { verdict = Sound; count = lastWithin bytes b (rowsIn bytes) + 1 }
 
       go : (t : Bool) → wholeRows bytes ≡ t → (u : Bool) → ltb 0 bad ≡ u → (s : Bool) → ltb (b .0) (startAt bytes 0 .0) ≡ s
-          → Finds p bytes b (cond t (cond u (noRow (Row bad)) (cond s (noRow (Budget (startAt bytes 0))) last)) (noRow (Row 0)))
+          → Finds p bytes b (cond t (cond u (noCount (Row bad)) (cond s (noCount (Budget (startAt bytes 0))) last)) (noCount (Row 0)))
       go false e u f s g = wrong-length (λ w. true≢false (sym (whole-all w) ∙ e))
       go true e true f s g = bad-named checked (ltb-true 0 _ f) (whole-only e)
       go true e false f true g = below-first (formed (whole-only e) (ltb-false 0 _ f)) (ltb-true _ _ g)

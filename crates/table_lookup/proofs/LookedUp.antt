@@ -27,7 +27,7 @@ use Rattle.table.proofs.Outcome.{length-table}
 use Rattle.table.proofs.Reading.{first-start}
 use Rattle.table_row.specs.Table.{startAt}
 use Rattle.table_check.specs.Formed.{WellFormed}
-use Rattle.table_lookup.specs.Lookup.{Answers, noRow, Finds, below-first, answering}
+use Rattle.table_lookup.specs.Lookup.{Answers, noCount, Finds, below-first, answering}
 use Rattle.table_lookup.specs.AsChosen.{Shows, LooksUpAs, LooksUpAll}
 use Rattle.table_lookup.proofs.OneOutcome.{finds-one}
 use Rattle.table_lookup.proofs.Laid.{row-member, member-row, laid-alone, loss-at}
@@ -95,7 +95,7 @@ module _ (p : Profile) (v : Valid p) {rows : List (List Seconds)} (t : TableOf (
   outcome-looked-up (none-permitted no-list) = absurd (no-list _ (first .enough .1))
   outcome-looked-up (none-fit l unfit) =
       let below : b .0 < startAt (tableBytes (jobsOf p) rows) 0 .0 = too-small (decLe (need (jobsOf p) (getD rows 0 []) .0) (b .0)) in (
-        noRow (Budget (startAt (tableBytes (jobsOf p) rows) 0)),
+        noCount (Budget (startAt (tableBytes (jobsOf p) rows) 0)),
         below-first formed below,
         record { verdict = ap Budget (first-there ∙ one-least-budget first l); row = λ e. absurd (eqb-false 10 0 refl (ap numberOf e)) },
       )

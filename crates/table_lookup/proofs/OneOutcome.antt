@@ -18,7 +18,7 @@ use Rattle.model.specs.Model.{numberOf, ifSound, verdictOf}
 use Rattle.model.proofs.ProfileFirst.{sound-or-not, beside-unsound, one-first}
 use Rattle.model.proofs.Verdicts.{Refuses, beside-sound}
 use Rattle.table_check.specs.Formed.{FirstBadRow}
-use Rattle.table_lookup.specs.Lookup.{Answers, noRow, Finds, wrong-length, bad-row, below-first, answering, Locates, JudgesLookup, LooksUp}
+use Rattle.table_lookup.specs.Lookup.{Answers, noCount, Finds, wrong-length, bad-row, below-first, answering, Locates, JudgesLookup, LooksUp}
 use Rattle.table_lookup.proofs.Finding.{neither-less, one-answers, below-none}
 use denote.Ref.{now, ptr}
 use Rattle.table_lookup.proofs.lookup.Reads as lookup-contract
@@ -34,7 +34,7 @@ finds-one (wrong-length odd) (bad-row w f) = absurd (odd w)
 finds-one (wrong-length odd) (below-first w l) = absurd (odd (w .size))
 finds-one (wrong-length odd) (answering w a) = absurd (odd (w .size))
 finds-one (bad-row w f) (wrong-length odd) = absurd (odd w)
-finds-one (bad-row w f) (bad-row w′ f′) = ap (λ (k : ℕ). noRow (Row (k + 1))) (first-bad-one _ _ f f′)
+finds-one (bad-row w f) (bad-row w′ f′) = ap (λ (k : ℕ). noCount (Row (k + 1))) (first-bad-one _ _ f f′)
 finds-one (bad-row w f) (below-first w′ l) = absurd (f .bad (w′ .rows _ (f .there)))
 finds-one (bad-row w f) (answering w′ a) = absurd (f .bad (w′ .rows _ (f .there)))
 finds-one (below-first w l) (wrong-length odd) = absurd (odd (w .size))
@@ -77,7 +77,7 @@ sound-finds {bytes} {b} (answering {k} w a) e =
     let back : k ≡ k + 1 - 1 = omega arith in
     record { some = omega arith; answers = subst (Answers bytes b) back a }
 
-refused-finds : {p : Profile} {bytes : List ℕ} {b : PagesPerHour} {r : Counted} → Finds p bytes b r → Refuses (r .verdict) → r ≡ noRow (r .verdict)
+refused-finds : {p : Profile} {bytes : List ℕ} {b : PagesPerHour} {r : Counted} → Finds p bytes b r → Refuses (r .verdict) → r ≡ noCount (r .verdict)
 refused-finds (wrong-length odd) h = refl
 refused-finds (bad-row w f) h = refl
 refused-finds (below-first w l) h = refl
@@ -97,24 +97,24 @@ module _ (p : Profile) (bytes : List ℕ) (b : PagesPerHour) {r : Counted} (loca
   pub sound-number : r .verdict ≡ Sound → 1 ≤ r .count
   sound-number e = beside e .some
 
-  pub refused-alone : Refuses (r .verdict) → r ≡ noRow (r .verdict)
+  pub refused-alone : Refuses (r .verdict) → r ≡ noCount (r .verdict)
   refused-alone h = go (sound-or-not (verdictOf p))
     where
-      go : Dec (verdictOf p ≡ Sound) → r ≡ noRow (r .verdict)
+      go : Dec (verdictOf p ≡ Sound) → r ≡ noCount (r .verdict)
       go (yes own) = refused-finds (located .sound own) h
       go (no ne) =
           let e = located .own ne in
-          e ∙ ap noRow (sym (ap (λ (c : Counted). c .verdict) e))
+          e ∙ ap noCount (sym (ap (λ (c : Counted). c .verdict) e))
 
   pub refused-number : Refuses (r .verdict) → r .count ≡ 0
   refused-number h = ap (λ (c : Counted). c .count) (refused-alone h)
 
 -- the answer that a verdict told goes with
 module _ (p : Profile) (bytes : List ℕ) (b : PagesPerHour) {v : Verdict} (told : JudgesLookup p bytes b v) where
-  pub refused-located : Refuses v → Locates p bytes b (noRow v)
+  pub refused-located : Refuses v → Locates p bytes b (noCount v)
   refused-located h =
       let alone = refused-alone p bytes b (told .located) (subst Refuses (told .verdict) h) in
-      subst (Locates p bytes b) (alone ∙ ap noRow (sym (told .verdict))) (told .located)
+      subst (Locates p bytes b) (alone ∙ ap noCount (sym (told .verdict))) (told .located)
 
   pub row-located : v ≡ Sound → {k : ℕ} → Answers bytes b k → Locates p bytes b (record { verdict = Sound; count = k + 1 })
   row-located e {k} a =

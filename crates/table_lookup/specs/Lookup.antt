@@ -19,21 +19,21 @@ pub record Answers (bytes : List ℕ) (b : PagesPerHour) (k : ℕ) : Type 0 wher
   pub within : startAt bytes k .0 ≤ b .0
   pub last : (i : ℕ) → k < i → i < rowsIn bytes → b .0 < startAt bytes i .0
 
--- A refusal, and no row beside it (Refusal numbers).
-abbrev pub noRow : Verdict → Counted
-noRow v = record { verdict = v; count = 0 }
+-- A refusal, and no number of a row beside it (Refusal numbers).
+abbrev pub noCount : Verdict → Counted
+noCount v = record { verdict = v; count = 0 }
 
 -- What is found in a table: 12 with 0 for its length, 12 with the number of its first bad row, 10 with its first start where the budget
 -- is below that, else the number of the row that answers, both counted from 1 (Refusal numbers, on lookup).
 pub data Finds (p : Profile) (bytes : List ℕ) (b : PagesPerHour) : Counted → Type 0 where
-  wrong-length : (WholeRows bytes → ⊥) → Finds p bytes b (noRow (Row 0))
-  bad-row : {k : ℕ} → WholeRows bytes → FirstBadRow p bytes k → Finds p bytes b (noRow (Row (k + 1)))
-  below-first : WellFormed p bytes → b .0 < startAt bytes 0 .0 → Finds p bytes b (noRow (Budget (startAt bytes 0)))
+  wrong-length : (WholeRows bytes → ⊥) → Finds p bytes b (noCount (Row 0))
+  bad-row : {k : ℕ} → WholeRows bytes → FirstBadRow p bytes k → Finds p bytes b (noCount (Row (k + 1)))
+  below-first : WellFormed p bytes → b .0 < startAt bytes 0 .0 → Finds p bytes b (noCount (Budget (startAt bytes 0)))
   answering : {k : ℕ} → WellFormed p bytes → Answers bytes b k → Finds p bytes b (record { verdict = Sound; count = k + 1 })
 
 -- What `locate` may answer: the profile's own refusal, and only then what is found.
 abbrev pub Locates : Profile → List ℕ → PagesPerHour → Counted → Type 0
-Locates p bytes b r = ProfileFirst p noRow (Finds p bytes b) r
+Locates p bytes b r = ProfileFirst p noCount (Finds p bytes b) r
 
 -- What `judge_lookup` may answer: the verdict of that.
 abbrev pub JudgesLookup : Profile → List ℕ → PagesPerHour → Verdict → Type 0

@@ -10,7 +10,7 @@ use Rattle.model.proofs.ProfileFirst.{own-refused, past-profile}
 use Rattle.model.proofs.Validity.{sound-valid}
 use Rattle.model.proofs.Verdicts.{refuses}
 use Rattle.table_check.specs.Formed.{WholeRows, WellFormed}
-use Rattle.table_lookup.specs.Lookup.{noRow, wrong-length, below-first}
+use Rattle.table_lookup.specs.Lookup.{noCount, wrong-length, below-first}
 use Rattle.table_lookup.proofs.Finding.{lastWithin}
 use Rattle.table_lookup.proofs.Computed.{none-bad, bad-named, from-first}
 use borrow.Author.Needs.{needs}
@@ -39,13 +39,13 @@ enum-told c = search needs
 returns : tie.Need-returns
 returns c =
     let j = c .before .judge in
-    record { found = noRow (j .result); located = own-refused (j .result) (refuses (j .result) (c .match .keys2)) (j .ensures); verdict = refl }
+    record { found = noCount (j .result); located = own-refused (j .result) (refuses (j .result) (c .match .keys2)) (j .ensures); verdict = refl }
 
 returns-2 : tie.Need-returns-2
-returns-2 c = record { found = noRow (Row 0); located = past-profile (sound (c .before)) (wrong-length (λ w. omega (arith, w .some, c .if1 .taken))); verdict = refl }
+returns-2 c = record { found = noCount (Row 0); located = past-profile (sound (c .before)) (wrong-length (λ w. omega (arith, w .some, c .if1 .taken))); verdict = refl }
 
 returns-3 : tie.Need-returns-3
-returns-3 c = record { found = noRow (Row 0); located = past-profile (sound (c .before .before)) (wrong-length (λ w. c .if2 .taken (w .whole))); verdict = refl }
+returns-3 c = record { found = noCount (Row 0); located = past-profile (sound (c .before .before)) (wrong-length (λ w. c .if2 .taken (w .whole))); verdict = refl }
 
 first-bad-row-requires : tie.Need-first-bad-row-requires
 first-bad-row-requires c κs = sound-valid _ (sound (c .before .before))
@@ -54,7 +54,7 @@ returns-4 : tie.Need-returns-4
 returns-4 c =
     let f = c .before in
     record {
-      found = noRow (Row (f .first-bad-row .result));
+      found = noCount (Row (f .first-bad-row .result));
       located = past-profile (sound (f .before .before .before)) (bad-named (f .first-bad-row .ensures) (c .if3 .taken) (whole (f .before)));
       verdict = refl;
     }
@@ -68,7 +68,7 @@ returns-5 c =
     let e = r .start-at .ensures in
     let start = ap (λ (x : PagesPerHour). x .0) e in
     record {
-      found = noRow (Budget _);
+      found = noCount (Budget _);
       located = past-profile (sound (r .before .before .before .before .before)) (below-first (formed (r .before)) (omega (arith, start, c .if4 .taken)));
       verdict = ap Budget e;
     }
