@@ -4,7 +4,7 @@ use mathlib.Core.Path.{_≡_, sym, _∙_}
 use native.Mathlib.Omega.{arith}
 use borrow.Author.Needs.{needs}
 use Rattle.model.specs.declared.Verdict.the-variants.{Sound}
-use Rattle.model.specs.Model.{verdictOf}
+use Rattle.model.specs.Model.{jobsOf, verdictOf}
 use Rattle.model.proofs.Validity.{sound-valid}
 use Rattle.model.proofs.Verdicts.{refuses, refused-stays}
 use Rattle.model.proofs.FrontPut.{none-put, room-enough, count-refused}
@@ -52,7 +52,8 @@ returns-2 c =
 write-rows-requires-2 : tie.Need-write-rows-requires-2
 write-rows-requires-2 c κs =
     let k = c .before .before .before .before .before in
-    (sound-valid _ (sound (told k)), omega (arith, k .write-rows .ensures .count))
+    let p = told k .before .before .before .before .args .p in
+    (sound-valid _ (sound (told k)), omega (arith, k .write-rows .ensures .count, rows-few (jobsOf p) allBudgets))
 
 same-length : tie.Need-same-length
 same-length c = search needs
