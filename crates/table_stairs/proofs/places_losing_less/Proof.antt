@@ -2,10 +2,10 @@
 -- Assumes nothing.
 use mathlib.Core.Path.{_≡_, subst}
 use mathlib.Core.Logic.{⊎-elim}
-use Prim.Native.Nat.{ℕ, _-_, _≤_}
+use Prim.Native.Nat.{ℕ, _+_, _*_, _-_, _≤_, _<_}
 use borrow.Author.Needs.{needs}
 use native.Mathlib.Omega.{arith}
-use Rattle.table_stairs.specs.Rows.{PlacesLoseLess}
+use Rattle.table_stairs.specs.Rows.{most, PlacesLoseLess}
 use Rattle.table_stairs.proofs.Counting.{one-less, one-no-less}
 use Rattle.table_stairs.proofs.places_losing_less.Statement.{statement}
 use Rattle.table_stairs.proofs.places_losing_less.Tie as tie
@@ -19,23 +19,27 @@ abbrev μ-loop : tie.MeasureT-loop
 loop-holds : tie.Need-loop-holds Inv-loop μ-loop
 loop-holds c = (omega arith, record { upto = omega arith; less = λ h. absurd (omega arith); no-less = λ h. absurd (omega arith) })
 
+-- the row at hand stands in the array
+inside : (c : tie.In-loop Inv-loop μ-loop) → c .before .before .args .first + c .before .before .args .step * c .before .loop .x < most
+inside c = c .before .before .pre .within (c .before .loop .x) (omega arith)
+
 mul-if1 : tie.Need-mul-if1 Inv-loop μ-loop
-mul-if1 c = search (needs, c .before .before .pre .within (c .before .loop .x) (omega arith))
+mul-if1 c = search (needs, inside c)
 
 add-if1 : tie.Need-add-if1 Inv-loop μ-loop
-add-if1 c = search (needs, c .before .before .pre .within (c .before .loop .x) (omega arith))
+add-if1 c = search (needs, inside c)
 
 mul-if1-2 : tie.Need-mul-if1-2 Inv-loop μ-loop
-mul-if1-2 c = search (needs, c .before .before .pre .within (c .before .loop .x) (omega arith))
+mul-if1-2 c = search (needs, inside c)
 
 add-if1-2 : tie.Need-add-if1-2 Inv-loop μ-loop
-add-if1-2 c = search (needs, c .before .before .pre .within (c .before .loop .x) (omega arith))
+add-if1-2 c = search (needs, inside c)
 
 mul-if1-3 : tie.Need-mul-if1-3 Inv-loop μ-loop
-mul-if1-3 c = search (needs, c .before .before .pre .within (c .before .loop .x) (omega arith))
+mul-if1-3 c = search (needs, inside c)
 
 element-copy-out-if1 : tie.Need-element-copy-out-if1 Inv-loop μ-loop
-element-copy-out-if1 c = search (needs, c .before .before .pre .within (c .before .loop .x) (omega arith))
+element-copy-out-if1 c = search (needs, inside c)
 
 add-less : tie.Need-add-less Inv-loop μ-loop
 add-less c = search needs
@@ -48,11 +52,11 @@ loop-less c = search needs
 
 loop-again : tie.Need-loop-again Inv-loop μ-loop
 loop-again c =
-    let entry = c .before .before .before .before in
-    let at = c .before .before .before .loop in
-    let counted = at .inv .1 in
-    let inside = c .before .before .loop-test .taken in
-    (omega (arith, inside), ⊎-elim (λ w. rw (w .1) (one-less (entry .pre) inside counted (w .0 .taken))) (λ w. rw (w .1) (one-no-less (entry .pre) counted (w .0 .left))) (c .if1 .came))
+    let i = c .before .before in
+    let rise = i .before .before .pre in
+    let counted = i .before .loop .inv .1 in
+    let more = i .loop-test .taken in
+    (omega (arith, more), ⊎-elim (λ w. rw (w .1) (one-less rise more counted (w .0 .taken))) (λ w. rw (w .1) (one-no-less rise counted (w .0 .left))) (c .if1 .came))
 
 returns : tie.Need-returns Inv-loop μ-loop
 returns c =
