@@ -56,9 +56,9 @@ needs-step p k pos to =
     let again : k - 1 + 1 ≡ k = omega arith in
     ap leastNeeds (entries-step noJob (p .jobs) (k - 1) (p .n) (omega arith)) ∙ ap (λ (x : ℕ). 3600 * load (jobAt p (k - 1)) / jobAt p (k - 1) .hi .0 + needsFrom p x) again
 
-pub needs-none : (p : Profile) → needsFrom p (p .n) ≡ 0
+pub none-needed : (p : Profile) → needsFrom p (p .n) ≡ 0
 unfolding leastNeeds
-needs-none p = ap leastNeeds (entries-end noJob (p .jobs) (p .n) (p .n) (omega arith))
+none-needed p = ap leastNeeds (entries-end noJob (p .jobs) (p .n) (p .n) (omega arith))
 
 module _ {p : Profile} (v : Valid p) where
   pub valid-at : (k : ℕ) → k < p .n → ValidJob (jobAt p k)
@@ -77,26 +77,26 @@ module _ {p : Profile} (v : Valid p) where
       omega arith
 
   -- nothing is in yet
-  pub halves-none : (many : ℕ) {f g : ℕ → ℕ} → Halves many f g (p .n) (p .n) (p .n) (replicate many 0)
-  halves-none many = record { size = length-replicate many 0; front = λ m from less. absurd (omega arith); back = λ m from less. absurd (omega arith) }
+  pub none-filled : (many : ℕ) {f g : ℕ → ℕ} → Halves many f g (p .n) (p .n) (p .n) (replicate many 0)
+  none-filled many = record { size = length-replicate many 0; front = λ m from less. absurd (omega arith); back = λ m from less. absurd (omega arith) }
 
-  pub stiffnesses-none : StiffnessesFrom p (p .n) (replicate 8 0)
-  stiffnesses-none = record { size = refl; stiff = λ m from less. absurd (omega arith) }
+  pub none-weighed : StiffnessesFrom p (p .n) (replicate 8 0)
+  none-weighed = record { size = refl; stiff = λ m from less. absurd (omega arith) }
 
-  pub rates-none : RatesFrom p (p .n) (replicate 17 0)
-  rates-none = record { size = refl; front = λ m from less. absurd (omega arith); back = last }
+  pub none-rated : RatesFrom p (p .n) (replicate 17 0)
+  none-rated = record { size = refl; front = λ m from less. absurd (omega arith); back = last }
     where
       last : Filled second (needsFrom p) (p .n) (p .n + 1) (replicate 17 0)
       last k from less =
           let n≤ = v .n-to in
           let is : k ≡ p .n = omega arith in
-          getD-replicate 17 (8 + k) 0 0 (omega arith) ∙ sym (ap (needsFrom p) is ∙ needs-none p)
+          getD-replicate 17 (8 + k) 0 0 (omega arith) ∙ sym (ap (needsFrom p) is ∙ none-needed p)
 
   module _ (k : ℕ) (pos : 0 < k) (to : k ≤ p .n) where
     -- one entry more in each half
-    pub halves-more : {many : ℕ} {f g : ℕ → ℕ} {end : ℕ} {xs : List ℕ} {a b : ℕ} → 16 ≤ many → a ≡ f (k - 1) → b ≡ g (k - 1) → Halves many f g (p .n) end k xs →
+    pub one-filled : {many : ℕ} {f g : ℕ → ℕ} {end : ℕ} {xs : List ℕ} {a b : ℕ} → 16 ≤ many → a ≡ f (k - 1) → b ≡ g (k - 1) → Halves many f g (p .n) end k xs →
         Halves many f g (p .n) end (k - 1) (set (set xs (k - 1) a) (8 + (k - 1)) b)
-    halves-more {many} {f} {g} {end} {xs} {a} {b} room is-a is-b h =
+    one-filled {many} {f} {g} {end} {xs} {a} {b} room is-a is-b h =
         let n≤ = v .n-to in
         let one = set xs (k - 1) a in
         let size₁ : length one ≡ many = length-set xs (k - 1) a ∙ h .size in
@@ -108,16 +108,16 @@ module _ {p : Profile} (v : Valid p) where
           back = filled-more second g one b (λ m on. omega arith) (omega arith) is-b back₁;
         }
 
-    pub stiffnesses-more : {xs : List ℕ} → StiffnessesFrom p k xs → StiffnessesFrom p (k - 1) (set xs (k - 1) (jobAt p (k - 1) .stiffness))
-    stiffnesses-more {xs} s =
+    pub one-weighed : {xs : List ℕ} → StiffnessesFrom p k xs → StiffnessesFrom p (k - 1) (set xs (k - 1) (jobAt p (k - 1) .stiffness))
+    one-weighed {xs} s =
         let n≤ = v .n-to in
         let size = s .size in
         record { size = length-set xs (k - 1) (jobAt p (k - 1) .stiffness) ∙ size; stiff = filled-more first _ xs (jobAt p (k - 1) .stiffness) (λ m on. omega arith) (omega arith) refl (s .stiff) }
 
     -- the pages of a run, and their rate at the longest period: what the job needs at least
     module _ {own needs : ℕ} {slow : PagesPerHour} (is-own : own ≡ load (jobAt p (k - 1))) (is-slow : slow ≡ hourly own (jobAt p (k - 1) .hi)) (had : needs ≡ needsFrom p k) where
-      pub needs-more : slow .0 + needs ≡ needsFrom p (k - 1)
-      needs-more =
+      pub one-needed : slow .0 + needs ≡ needsFrom p (k - 1)
+      one-needed =
           let least = is-slow ∙ ap (λ (x : ℕ). hourly x (jobAt p (k - 1) .hi)) is-own in
           ap₂ (λ (a : PagesPerHour) (b : ℕ). a .0 + b) least had ∙ sym (needs-step p k pos to)
 

@@ -23,9 +23,9 @@ pub record FloorFrom (spans pages rates stiffnesses : List ℕ) (i n : ℕ) (t :
   pub is : (js : List Job) → Held spans pages rates stiffnesses k n js → floor ≡ lossFloor js (t .0)
 
 module _ {spans pages rates stiffnesses : List ℕ} {i n : ℕ} {t : Seconds} (l : Later spans pages rates stiffnesses i n t) where
-  pub floor-none : FloorFrom spans pages rates stiffnesses i n t 0 n
+  pub none-summed : FloorFrom spans pages rates stiffnesses i n t 0 n
   unfolding lossFloor
-  floor-none =
+  none-summed =
       let c = l .held .count in
       record { from = omega arith; to = omega arith; small = omega arith; is = λ js h. ap (λ (ks : List Job). lossFloor ks (t .0)) (sym (held-none js h)) }
 
@@ -51,9 +51,9 @@ module _ {spans pages rates stiffnesses : List ℕ} {i n : ℕ} {t : Seconds} (l
       pub sum-fits : x + floor ≤ mostLoss * (n - (k - 1))
       sum-fits = let s = f .small in let to = f .to in let o = one-small in omega arith
 
-      pub floor-more : FloorFrom spans pages rates stiffnesses i n t (x + floor) (k - 1)
+      pub one-summed : FloorFrom spans pages rates stiffnesses i n t (x + floor) (k - 1)
       unfolding lossFloor
-      floor-more = let to = f .to in record { from = omega arith; to = omega arith; small = sum-fits; is = opened }
+      one-summed = let to = f .to in record { from = omega arith; to = omega arith; small = sum-fits; is = opened }
         where
           again : k - 1 + 1 ≡ k
           again = omega arith

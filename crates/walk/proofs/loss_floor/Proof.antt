@@ -1,7 +1,7 @@
 -- `walk::loss_floor` meets its contract: before each turn the sum is the floor of the jobs from place k on.
 -- Assumes nothing.
 use mathlib.Core.Path.{_≡_}
-use Rattle.walk.proofs.FloorTurn.{FloorFrom, floor-none, floor-fits, sum-fits, floor-more}
+use Rattle.walk.proofs.FloorTurn.{FloorFrom, none-summed, floor-fits, sum-fits, one-summed}
 use borrow.Author.Needs.{needs}
 use native.Mathlib.Omega.{arith}
 use Rattle.walk.proofs.loss_floor.Statement.{statement}
@@ -14,7 +14,7 @@ abbrev μ-loop : tie.MeasureT-loop
 μ-loop spans pages rates stiffnesses i n t floor₀ k₀ floor k = k
 
 loop-holds : tie.Need-loop-holds Inv-loop μ-loop
-loop-holds c = floor-none (c .pre)
+loop-holds c = none-summed (c .pre)
 
 sub-k : tie.Need-sub-k Inv-loop μ-loop
 sub-k c = search needs
@@ -65,7 +65,7 @@ loop-less c = search needs
 loop-again : tie.Need-loop-again Inv-loop μ-loop
 loop-again c =
     let s = c .before .before .before .before .before .before .before in
-    floor-more (s .before .pre) (s .loop .inv) (c .before .before .before .before .before .before .loop-test .taken) _ (c .before .before .before .before .longer .ensures) _ (c .job-loss .ensures)
+    one-summed (s .before .pre) (s .loop .inv) (c .before .before .before .before .before .before .loop-test .taken) _ (c .before .before .before .before .longer .ensures) _ (c .job-loss .ensures)
 
 returns : tie.Need-returns Inv-loop μ-loop
 returns c =

@@ -8,7 +8,7 @@ use Rattle.model.specs.declared.Profile.{Profile}
 use Rattle.model.specs.Valid.{ValidJob}
 use Rattle.model.proofs.Bounds.{load-bound}
 use Rattle.walk.specs.Arrays.{jobAt, needsFrom, RatesFrom}
-use Rattle.walk.proofs.Filled.{valid-at, needs-to, needs-none, needs-more, rates-none, halves-more}
+use Rattle.walk.proofs.Filled.{valid-at, needs-to, none-needed, one-needed, none-rated, one-filled}
 use borrow.Author.Needs.{needs}
 use native.Mathlib.Omega.{arith}
 use Rattle.walk_arrays.proofs.rates_of.Statement.{statement}
@@ -35,7 +35,7 @@ cast-k : tie.Need-cast-k Inv-loop μ-loop
 cast-k c = search needs
 
 loop-holds : tie.Need-loop-holds Inv-loop μ-loop
-loop-holds c = record { upto = omega arith; sum = sym (needs-none _); held = rates-none (c .pre) }
+loop-holds c = record { upto = omega arith; sum = sym (none-needed _); held = none-rated (c .pre) }
 
 sub-k : tie.Need-sub-k Inv-loop μ-loop
 sub-k c = search needs
@@ -70,7 +70,7 @@ more : (c : tie.After-hourly-rate Inv-loop μ-loop) →
 more c =
     let i = c .before .before .before .before in
     let l = i .before .loop in
-    needs-more (i .before .before .pre) (l .k) (i .loop-test .taken) (l .inv .upto) (c .before .need-pages .ensures) (c .hourly-rate .ensures) (l .inv .sum)
+    one-needed (i .before .before .pre) (l .k) (i .loop-test .taken) (l .inv .upto) (c .before .need-pages .ensures) (c .hourly-rate .ensures) (l .inv .sum)
 
 add-needs : tie.Need-add-needs Inv-loop μ-loop
 add-needs c =
@@ -98,7 +98,7 @@ loop-again c =
     let pos = i .loop-test .taken in
     let fast = ap (λ (r : PagesPerHour). r .0) (c .before .before .before .fastest-rate .ensures) in
     let least = more (c .before) in
-    record { upto = omega arith; sum = least; held = halves-more (i .before .before .pre) (l .k) pos (l .inv .upto) (omega arith) fast least (l .inv .held) }
+    record { upto = omega arith; sum = least; held = one-filled (i .before .before .pre) (l .k) pos (l .inv .upto) (omega arith) fast least (l .inv .held) }
 
 returns : tie.Need-returns Inv-loop μ-loop
 returns c =

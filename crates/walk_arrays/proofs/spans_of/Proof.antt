@@ -3,7 +3,7 @@
 use mathlib.Core.Path.{_≡_, refl}
 use Prim.Native.Nat.{_≤_}
 use Rattle.walk.specs.Arrays.{SpansFrom}
-use Rattle.walk.proofs.Filled.{halves-none, halves-more}
+use Rattle.walk.proofs.Filled.{none-filled, one-filled}
 use borrow.Author.Needs.{needs}
 use native.Mathlib.Omega.{arith}
 use Rattle.walk_arrays.proofs.spans_of.Statement.{statement}
@@ -19,7 +19,7 @@ cast-k : tie.Need-cast-k Inv-loop μ-loop
 cast-k c = search needs
 
 loop-holds : tie.Need-loop-holds Inv-loop μ-loop
-loop-holds c = (omega arith, halves-none (c .pre) 16)
+loop-holds c = (omega arith, none-filled (c .pre) 16)
 
 sub-k : tie.Need-sub-k Inv-loop μ-loop
 sub-k c = search needs
@@ -53,7 +53,7 @@ loop-again c =
     let l = c .before .before .loop in
     let s = c .before .before .before in
     let pos = c .before .loop-test .taken in
-    (omega arith, halves-more (s .pre) (l .k) pos (l .inv .0) (omega arith) refl refl (l .inv .1))
+    (omega arith, one-filled (s .pre) (l .k) pos (l .inv .0) (omega arith) refl refl (l .inv .1))
 
 returns : tie.Need-returns Inv-loop μ-loop
 returns c =

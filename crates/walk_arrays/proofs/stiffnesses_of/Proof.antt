@@ -3,7 +3,7 @@
 use mathlib.Core.Path.{_≡_}
 use Prim.Native.Nat.{_≤_}
 use Rattle.walk.specs.Arrays.{StiffnessesFrom}
-use Rattle.walk.proofs.Filled.{stiffnesses-none, stiffnesses-more}
+use Rattle.walk.proofs.Filled.{none-weighed, one-weighed}
 use borrow.Author.Needs.{needs}
 use native.Mathlib.Omega.{arith}
 use Rattle.walk_arrays.proofs.stiffnesses_of.Statement.{statement}
@@ -19,7 +19,7 @@ cast-k : tie.Need-cast-k Inv-loop μ-loop
 cast-k c = search needs
 
 loop-holds : tie.Need-loop-holds Inv-loop μ-loop
-loop-holds c = (omega arith, stiffnesses-none (c .pre))
+loop-holds c = (omega arith, none-weighed (c .pre))
 
 sub-k : tie.Need-sub-k Inv-loop μ-loop
 sub-k c = search needs
@@ -44,7 +44,7 @@ loop-again c =
     let l = c .before .before .loop in
     let s = c .before .before .before in
     let pos = c .before .loop-test .taken in
-    (omega arith, stiffnesses-more (s .pre) (l .k) pos (l .inv .0) (l .inv .1))
+    (omega arith, one-weighed (s .pre) (l .k) pos (l .inv .0) (l .inv .1))
 
 returns : tie.Need-returns Inv-loop μ-loop
 returns c =
