@@ -70,15 +70,15 @@ uint64_t charopleth_read(const uint8_t *profile, size_t length, uint32_t values[
 uint64_t charopleth_write(uint32_t n, const uint32_t jobs[CHAROPLETH_JOBS_LENGTH], uint8_t *room, size_t length);
 
 /* What given periods need and lose. periods: eight numbers of seconds, of which those beyond n are ignored. answer: the need
- * in pages per hour, and the loss. Returns 0 where they were scored. Refuses 13 with the number, from 1, of the first job
- * whose period is outside its interval or no multiple of the period before. */
+ * in pages per hour, and the loss. Returns 0 where they were scored. Refuses 13 where they are not permitted, with the number,
+ * from 1, of the first job whose interval or whose period before rules its own period out. */
 uint64_t charopleth_score(uint32_t n, const uint32_t jobs[CHAROPLETH_JOBS_LENGTH],
                           const uint32_t periods[CHAROPLETH_MOST_JOBS], uint64_t answer[CHAROPLETH_SCORE_LENGTH]);
 
-/* The best periods for a budget of flash pages per hour: among permitted periods that fit it those with the least loss, on
- * equal loss the least need, on equal need the list that is smaller at its first difference. answer: the need in pages per
- * hour, the loss, and eight periods in seconds, 0 beyond n. Returns 0 where periods were chosen. Refuses 9 where no periods
- * are permitted, and 10 where none fit the budget, with the least budget that would do. */
+/* The best periods for a budget of flash pages per hour: permitted, fitting, and of the smallest loss that such periods have;
+ * of those with one loss, the ones of smallest need, and then the list that is smaller where two first differ. answer: the
+ * need in pages per hour, the loss, and eight periods in seconds, 0 beyond n. Returns 0 where periods were chosen. Refuses 9
+ * where no periods are permitted, and 10 where none fit the budget, with the least budget that would do. */
 uint64_t charopleth_choose(uint32_t n, const uint32_t jobs[CHAROPLETH_JOBS_LENGTH], uint32_t budget,
                            uint64_t answer[CHAROPLETH_CHOICE_LENGTH]);
 
@@ -96,10 +96,11 @@ uint64_t charopleth_zones(uint32_t n, const uint32_t jobs[CHAROPLETH_JOBS_LENGTH
 uint64_t charopleth_table(uint32_t n, const uint32_t jobs[CHAROPLETH_JOBS_LENGTH], uint8_t *room, size_t length);
 
 /* The row of a lent table that answers a budget: the last whose start is at most that. The table need not be complete, but it
- * is checked in full before it is believed: each row has permitted periods with zeros beyond n, a start equal to their need,
- * and a greater start and a smaller loss than the row before. Returns the row's number, counted from 1, so that its sixteen
- * bytes begin at table + 16 * (number - 1). Refuses 12 with the number of the first row that is not so, or with 0 where length
- * is not a positive multiple of 16, then 10 where the first start is above the budget, with that start. */
+ * is checked in full before it is believed. A row is good when its periods are permitted and nothing stands behind them, when
+ * it starts at what they need, and when it starts above the row in front of it and loses less. Returns the row's number,
+ * counted from 1, so that its sixteen bytes begin at table + 16 * (number - 1). Refuses 12 with the number of the first row
+ * that is not good, or with 0 where length is not a positive multiple of 16, then 10 where the first start is above the
+ * budget, with that start. */
 uint64_t charopleth_lookup(uint32_t n, const uint32_t jobs[CHAROPLETH_JOBS_LENGTH], const uint8_t *table, size_t length,
                            uint32_t budget);
 

@@ -18,10 +18,11 @@ rowBytes high low = unpack (byteWidths 8) high ++ unpack (byteWidths 8) low
 unfoldable pub withRow : List ℕ → ℕ → List ℕ → List ℕ
 withRow bytes k row = cond (ltb k (length bytes / rowSize)) (take (rowSize * k) bytes ++ (row ++ drop (rowSize * k + rowSize) bytes)) bytes
 
--- The two words of a buffer's k-th row, counted from 0; zeros where it has no such row.
+-- Eight bytes from a place on, as a number.
 abbrev wordFrom : List ℕ → ℕ → ℕ
 wordFrom bytes at = pack (byteWidths 8) (take 8 (drop at bytes))
 
+-- The two words of a buffer's k-th row, counted from 0; zeros where it has no such row.
 unfoldable pub wordsAt : List ℕ → ℕ → RowWords
 wordsAt bytes k =
     cond (ltb k (length bytes / rowSize)) (record { high = wordFrom bytes (rowSize * k); low = wordFrom bytes (rowSize * k + 8) }) (record { high = 0; low = 0 })

@@ -16,8 +16,8 @@ abbrev pub ascii : String → List ℕ
 ascii none = []
 ascii (c then s) = code c ∷ ascii s
 
--- The decimal digits of a number, the last `most` of them, with no zero in front: a number below 10 is one digit, and any
--- other is the digits of its tenth part and then its last digit.
+-- The decimal digits of a number, the last `most` of them, with no zero in front where `most` are enough: a number below 10 is one
+-- digit, and any other is the digits of its tenth part and then its last digit.
 unfoldable pub digitsOf : ℕ → ℕ → List ℕ
 digitsOf zero n = []
 digitsOf (suc most) n = cond (ltb n 10) ((code "0" + n) ∷ []) (digitsOf most (n / 10) ++ ((code "0" + n % 10) ∷ []))

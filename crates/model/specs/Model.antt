@@ -162,7 +162,7 @@ refuseIf test refusal rest = cond test refusal rest
 
 -- The first verdict if it is a refusal; a sound one gives way to the second.
 unfoldable pub orElse : Verdict → Verdict → Verdict
-orElse v rest = refuseIf (eqb (numberOf v) 0) rest v
+orElse v rest = cond (eqb (numberOf v) 0) rest v
 
 -- What stands beside a verdict: the answer where it is sound, and `none` beside a refusal (Refusal numbers).
 unfoldable pub ifSound : {A : Type 0} → Verdict → A → A → A

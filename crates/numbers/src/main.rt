@@ -79,7 +79,7 @@ fn bad_values() {
     show_values(bad_beyond());
 }
 
-// 13, by the first period outside its interval or no multiple of the one before.
+// 13, by the first period that is not permitted: too short, too long, and not a multiple.
 fn bad_periods() {
     say(b"bad periods\n");
     let a = profile_a();

@@ -10,6 +10,7 @@ use Rattle.model.specs.declared.Verdict.the-variants.{Sound, Room}
 use Rattle.model.specs.Model.{refuseIf, PutsFront}
 use Rattle.codec.specs.Layout.{profileLength, profileBytes}
 
--- What `write_profile` may answer, and leave of a buffer that holds `old`: the profile's bytes and their number, or 11 (Refusal numbers).
+-- What `write_profile` may answer, and leave of a buffer that held `old`: the profile's own refusal, else 11 with the bytes needed, else
+-- the profile's bytes and their number (Packing; Refusal numbers).
 abbrev pub Writes : Profile → List ℕ → Counted → List ℕ → Type 0
 Writes p old = PutsFront p (refuseIf (ltb (length old) (profileLength (p .n))) (Room (profileLength (p .n))) Sound) (profileLength (p .n)) (profileBytes p) old

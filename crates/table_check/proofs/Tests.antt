@@ -64,7 +64,7 @@ unfolding zerosFrom
 zeros-all ts zero i h = refl
 zeros-all ts (suc m) i h = both-hold (eq-eqb _ 0 (h i (omega arith) (omega arith))) (zeros-all ts m (i + 1) (λ j from to. h j (omega arith) (omega arith)))
 
--- a greater start and a smaller loss than the row before
+-- starts above the row in front of it, and loses less
 unfoldable pub afterGood : Profile → List ℕ → ℕ → Bool
 afterGood p bytes zero = true
 afterGood p bytes (suc j) = ltb (startAt bytes j .0) (startAt bytes (suc j) .0) && ltb (lossAt p bytes (suc j)) (lossAt p bytes j)

@@ -9,8 +9,8 @@ use Rattle.model.specs.declared.Profile.{Profile}
 use Rattle.model.specs.Model.{seconds, jobsOf, periodsOf, Permitted, need, rowSize}
 use Rattle.table_row.specs.Table.{rowsIn, startAt, periodsAt, lossAt}
 
--- A good row: its jobs' periods are permitted and no other place is filled, its start is what they need, and it needs more and loses
--- less than the row before it, where there is one (The table).
+-- A good row: its jobs' periods are permitted and no other place is filled, its start is what they need, and it starts above the
+-- row before it and loses less, where there is one (The table).
 pub record GoodRow (p : Profile) (bytes : List ℕ) (k : ℕ) : Type 0 where
   pub permitted : Permitted (jobsOf p) (periodsOf p (periodsAt bytes k))
   pub zeros : (i : ℕ) → p .n ≤ i → i < 8 → getD (periodsAt bytes k) i (seconds 0) .0 ≡ 0

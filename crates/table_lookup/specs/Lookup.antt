@@ -19,7 +19,7 @@ pub record Answers (bytes : List ℕ) (b : PagesPerHour) (k : ℕ) : Type 0 wher
   pub within : startAt bytes k .0 ≤ b .0
   pub last : (i : ℕ) → k < i → i < rowsIn bytes → b .0 < startAt bytes i .0
 
--- A refusal, and no number of a row beside it (Refusal numbers).
+-- A refusal, and no count beside it (Refusal numbers).
 abbrev pub noCount : Verdict → Counted
 noCount v = record { verdict = v; count = 0 }
 

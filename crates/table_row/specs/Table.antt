@@ -19,7 +19,7 @@ tableWidths = 32 ∷ 12 ∷ 12 ∷ 12 ∷ 12 ∷ 12 ∷ 12 ∷ 12 ∷ 12 ∷ []
 unfoldable pub tableRow : PagesPerHour → List Seconds → List ℕ
 tableRow start periods = recut tableWidths (byteWidths rowSize) (start .0 ∷ map (λ t. t .0) (entries (seconds 0) periods 0 8))
 
--- The rows of a table.
+-- How many rows a table's bytes hold.
 abbrev pub rowsIn : List ℕ → ℕ
 rowsIn bytes = length bytes / rowSize
 

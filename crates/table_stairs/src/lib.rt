@@ -1,7 +1,7 @@
 // A staircase of plans in rising loss and falling need, at most 256 of them: its rows searched, moved and stored.
 //
-// specs/Stairs.antt says what is kept, specs/Rows.antt how that stands in an array, and what `table_enter` promises of it. They
-// serve other crates of the planner, and their callers meet what is required. Nothing is assumed.
+// specs/Stairs.antt says what is kept, specs/Rows.antt how that stands in an array, and what `table_enter` promises of it. These
+// functions serve other crates of the planner, and their callers meet what is required. Nothing is assumed.
 use model::PagesPerHour;
 ghost use mathlib.Core.Path.{_≡_};
 ghost use Prim.Native.Nat.{_≤_, _<_};

@@ -1,5 +1,5 @@
--- The zones as a list that can be computed, job by job, and what the walk over them holds. No public contract cites this.
--- Assumes nothing.
+-- The zones as a list that can be computed, job by job, and what the walk over them holds. Contracts of inner functions
+-- cite this, and those of no entry point. Assumes nothing.
 use mathlib.Core.Path.{_≡_}
 use mathlib.Core.List.{List, [], _∷_, _++_, map, flatMap}
 use mathlib.Core.Bool.{Bool, true, false}
