@@ -15,7 +15,7 @@
 /* At most this many times the same in C; on a thousand drawn profiles at least this many times faster than one choice per row. */
 static const double most_of_walk = 1.5, least_of_choices_drawn = 5;
 
-enum { ROWS = 32768, SMALL = 4096, DRAWN = 1000 };
+enum { ROWS = 32768, SMALL = 4096, DRAWN = 1000, RUNS = 7 };
 
 static uint8_t have[16 * ROWS], want[16 * ROWS];
 static int failed;
@@ -75,7 +75,7 @@ static void measure(const char *name, const uint32_t jobs[], size_t rows, const 
 {
     uint64_t answered = 0;
     double proved = 1e9, by_hand = 1e9;
-    for (int run = 0; run < 3; run++) {
+    for (int run = 0; run < RUNS; run++) {
         memset(have, 0xA5, sizeof have);
         double p = seconds_for(charopleth_table, jobs, have, 16 * rows, &answered), h = seconds_like(name, walk_table, jobs, 16 * rows, answered);
         proved = p < proved ? p : proved;
