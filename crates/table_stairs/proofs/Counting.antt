@@ -1,13 +1,13 @@
 -- Rows that rise in loss are counted off: as long as a row loses less, so do all before it, and from the first that does not none does.
 -- Assumes nothing.
-use mathlib.Core.Path.{_≡_, ap}
-use mathlib.Core.Logic.{_⊎_, ⊎-elim}
+use mathlib.Core.Path.{_≡_, _∙_, ap}
+use mathlib.Core.Logic.{⊎-elim}
 use mathlib.Core.List.{List}
-use Prim.Native.Nat.{ℕ, _+_, _*_, _-_, _/_, _≤_, _<_}
+use Prim.Native.Nat.{ℕ, zero, suc, _+_, _*_, _-_, _/_, _≤_, _<_}
 use native.Mathlib.Omega.{arith}
-use native.Mathlib.Nat.{mul-le-mul-left}
+use native.Mathlib.Nat.{zero-add, mul-zero, mul-suc, mul-comm, le-div-iff-mul-le, mul-le-mul-left}
 use native.Mathlib.Decide.{ℕ-discrete}
-use Rattle.table_stairs.specs.Rows.{most, lossIn, Rises, LosesLess, PlacesRise, PlacesLoseLess}
+use Rattle.table_stairs.specs.Rows.{most, lossIn, Rises, LosesLess, Lesser, PlacesRise, PlacesLoseLess}
 use Rattle.table_stairs.proofs.Rows.{loss-up}
 
 module _ {flat : List ℕ} {first step times l : ℕ} (rise : PlacesRise first step times flat) where
@@ -38,35 +38,69 @@ places-rise {flat} {k} {first} {step} {times} rises few inside = record {
   rise = λ x y to at. loss-up rises (first + step * x) (first + step * y) (omega (arith, mul-le-mul-left step to)) (inside y at);
 }
 
--- the last rows of whole blocks of sixteen, and then the block that is left
-pub block-less : {flat : List ℕ} {k l b r rest : ℕ} → PlacesLoseLess flat 15 16 (k / 16) l b → 16 * b + rest ≤ k → (rest ≡ 16) ⊎ (16 * b + rest ≡ k) → PlacesLoseLess flat (16 * b) 1 rest l r →
-    LosesLess flat k l (16 * b + r)
-block-less {flat} {k} {l} {b} {r} {rest} blocks fits size inside = record {
+-- a product, and the step that leads to it
+step-back : (s b : ℕ) → 0 < s * b → s * b ≡ s * (b - 1) + s
+step-back s zero pos = absurd (omega (arith, pos, mul-zero s))
+step-back s (suc b) pos =
+    let e : b ≡ suc b - 1 = omega arith in
+    mul-suc s b ∙ ap (λ (k : ℕ). s * k + s) e
+
+-- rows from place a on: the last ones of whole blocks of s are counted off, then the block that is left
+pub block-less : {flat : List ℕ} {a m s l b r rest : ℕ} → 1 ≤ s → PlacesLoseLess flat (a + (s - 1)) s (m / s) l b → Lesser (m - s * b) s rest → PlacesLoseLess flat (a + s * b) 1 rest l r →
+    PlacesLoseLess flat a 1 m l (s * b + r)
+block-less {flat} {a} {m} {s} {l} {b} {r} {rest} pos blocks size inside = record {
   upto = omega (arith, fits, inside .upto);
   less = λ some. before some (ℕ-discrete r 0);
   no-less = λ more. from more (ℕ-discrete r rest);
 }
   where
+    whole : s * b ≤ m
+    whole = rw (← mul-comm b s) (le-div-iff-mul-le pos .0 (blocks .upto))
+
+    fits : s * b + rest ≤ m
+    fits = omega (arith, whole, size .upto)
+
     at : {i j : ℕ} → i ≡ j → lossIn flat i ≡ lossIn flat j
     at e = ap (lossIn flat) e
 
-    before : 0 < 16 * b + r → Dec (r ≡ 0) → lossIn flat (16 * b + r - 1) < l
+    before : 0 < s * b + r → Dec (r ≡ 0) → lossIn flat (a + 1 * (s * b + r - 1)) < l
     before some (yes e) =
-        let place : 16 * b + r - 1 ≡ 15 + 16 * (b - 1) = omega (arith, some, e) in
-        rw (at place) (blocks .less (omega (arith, some, e)))
+        let back = step-back s b (omega (arith, some, e)) in
+        let place : a + 1 * (s * b + r - 1) ≡ a + (s - 1) + s * (b - 1) = omega (arith, some, e, back, pos) in
+        rw (at place) (blocks .less (first-block b back))
+      where
+        first-block : (k : ℕ) → s * k ≡ s * (k - 1) + s → 0 < k
+        first-block zero back = absurd (omega (arith, back, mul-zero s, pos))
+        first-block (suc k) back = omega arith
     before some (no ne) =
-        let place : 16 * b + r - 1 ≡ 16 * b + 1 * (r - 1) = omega (arith, ne) in
+        let place : a + 1 * (s * b + r - 1) ≡ a + s * b + 1 * (r - 1) = omega (arith, ne) in
         rw (at place) (inside .less (omega (arith, ne)))
 
-    from : 16 * b + r < k → Dec (r ≡ rest) → l ≤ lossIn flat (16 * b + r)
+    from : s * b + r < m → Dec (r ≡ rest) → l ≤ lossIn flat (a + 1 * (s * b + r))
     from more (no ne) =
-        let place : 16 * b + r ≡ 16 * b + 1 * r = omega arith in
+        let place : a + 1 * (s * b + r) ≡ a + s * b + 1 * r = omega arith in
         rw (at place) (inside .no-less (omega (arith, ne, inside .upto)))
-    from more (yes e) = ⊎-elim (λ whole. absurd (clash whole)) (λ last. absurd (omega (arith, last, more, e))) size
+    from more (yes e) = ⊎-elim (λ block. absurd (clash block)) (λ last. absurd (omega (arith, last, more, e, whole))) (size .one)
       where
-        clash : rest ≡ 16 → ⊥
-        clash whole =
-            let place : 16 * b + 1 * (r - 1) ≡ 15 + 16 * b = omega (arith, whole, e) in
-            let less = inside .less (omega (arith, whole, e)) in
-            let no-less = blocks .no-less (omega (arith, fits, whole)) in
+        clash : rest ≡ s → ⊥
+        clash block =
+            let place : a + s * b + 1 * (r - 1) ≡ a + (s - 1) + s * b = omega (arith, block, e, pos) in
+            let less = inside .less (omega (arith, block, e, pos)) in
+            let room : suc b * s ≤ m = omega (arith, mul-comm (suc b) s, mul-suc s b, fits, block) in
+            let no-less = blocks .no-less (le-div-iff-mul-le pos .1 room) in
             omega (arith, at place, less, no-less)
+
+-- all rows, from the first on
+all-less : {flat : List ℕ} {k l r : ℕ} → PlacesLoseLess flat 0 1 k l r → LosesLess flat k l r
+all-less {flat} {k} {l} {r} p = record {
+  upto = p .upto;
+  less = λ some. rw (ap (lossIn flat) (one (r - 1))) (p .less some);
+  no-less = λ more. rw (ap (lossIn flat) (one r)) (p .no-less more);
+}
+  where
+    one : (x : ℕ) → x ≡ 0 + 1 * x
+    one x = omega arith
+
+pub blocks-less : {flat : List ℕ} {k s l b r rest : ℕ} → 1 ≤ s → PlacesLoseLess flat (s - 1) s (k / s) l b → Lesser (k - s * b) s rest → PlacesLoseLess flat (s * b) 1 rest l r →
+    LosesLess flat k l (s * b + r)
+blocks-less {s = s} {b = b} pos blocks size inside = all-less (block-less pos (rw (zero-add (s - 1)) blocks) size (rw (zero-add (s * b)) inside))

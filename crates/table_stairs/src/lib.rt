@@ -7,13 +7,15 @@ ghost use mathlib.Core.Path.{_≡_};
 ghost use Prim.Native.Nat.{_≤_, _<_};
 ghost use lib.ListN.{length};
 ghost use Rattle.table_stairs.specs.Stairs.{noBound};
-ghost use Rattle.table_stairs.specs.Rows.{Periods, Rises, LosesLess, PlacesRise, PlacesLoseLess, Covers, NeedsLess, Moved, Stored};
+ghost use Rattle.table_stairs.specs.Rows.{Periods, Rises, LosesLess, Lesser, PlacesRise, PlacesLoseLess, Covers, NeedsLess, Moved, Stored};
 
 // Where a row has its loss, behind its two words.
 const LOSS_PLACE: usize = 2;
 
-// Rows are counted in blocks of so many.
-const BLOCK: usize = 16;
+// Rows are counted in blocks of so many, and a block in parts of so many.
+const BLOCK: usize = 36;
+
+const PART: usize = 6;
 
 // Whether some row has at most this need and at most this loss: the last that loses no more needs least of those.
 pub fn covers(rows: &[u64; 768], count: usize, need: PagesPerHour, loss: u64) -> bool
@@ -33,18 +35,29 @@ pub fn covers(rows: &[u64; 768], count: usize, need: PagesPerHour, loss: u64) ->
     true
 }
 
-// How many rows lose less than `loss`, where rows rise in loss: first of the last rows of whole blocks, then within the block
-// that is left. No branch depends on a loss, as each step of a search by halves would, and be foretold wrongly half the time.
+// How many rows lose less than `loss`, where rows rise in loss: first of the last rows of whole blocks, then of the last rows of
+// whole parts of the block that is left, then within the part that is left. No branch depends on a loss, as each step of a search
+// by halves would, and be foretold wrongly half the time.
 pub fn losing_less(rows: &[u64; 768], count: usize, loss: u64) -> usize
     requires { ⌜ count ≤ 256 ⌝ }
     requires { ⌜ Rises count (now rows) ⌝ }
     ensures { λ r. ⌜ LosesLess (now (rows .entry)) count loss r ⌝ }
 {
-    let from = BLOCK * places_losing_less(rows, BLOCK - 1, BLOCK, count / BLOCK, loss);
-    if count - from < BLOCK {
-        return from + places_losing_less(rows, from, 1, count - from, loss);
+    let blocks = BLOCK * places_losing_less(rows, BLOCK - 1, BLOCK, count / BLOCK, loss);
+    let block = at_most(count - blocks, BLOCK);
+    let parts = PART * places_losing_less(rows, blocks + (PART - 1), PART, block / PART, loss);
+    let part = at_most(block - parts, PART);
+    blocks + parts + places_losing_less(rows, blocks + parts, 1, part, loss)
+}
+
+// So many, but at most `most`.
+fn at_most(many: usize, most: usize) -> usize
+    ensures { λ r. ⌜ Lesser many most r ⌝ }
+{
+    if many < most {
+        return many;
     }
-    from + places_losing_less(rows, from, 1, BLOCK, loss)
+    most
 }
 
 // How many of so many rows, the first at place `first` and each `step` places behind the one before, lose less than `loss`.

@@ -1,10 +1,11 @@
--- `table_stairs::losing_less` meets its contract: the last rows of whole blocks are counted off, then the rows of one block.
+-- `table_stairs::losing_less` meets its contract: the last rows of whole blocks are counted off, then those of whole parts of a block,
+-- then the rows of one part.
 -- Assumes nothing.
+use Prim.Native.Nat.{_*_}
 use borrow.Author.Needs.{needs}
 use native.Mathlib.Omega.{arith}
-use mathlib.Core.Path.{refl}
-use mathlib.Core.Logic.{inl, inr}
-use Rattle.table_stairs.proofs.Counting.{places-rise, block-less}
+use native.Mathlib.Nat.{add-assoc}
+use Rattle.table_stairs.proofs.Counting.{places-rise, block-less, blocks-less}
 use Rattle.table_stairs.proofs.losing_less.Statement.{statement}
 use Rattle.table_stairs.proofs.losing_less.Tie as tie
 
@@ -14,40 +15,65 @@ sub-places-losing-less c = search needs
 places-losing-less-requires : tie.Need-places-losing-less-requires
 places-losing-less-requires c κs = places-rise (c .pre .1) (c .pre .0) (λ x at. omega (arith, at))
 
-mul-from : tie.Need-mul-from
-mul-from c = search needs
+mul-blocks : tie.Need-mul-blocks
+mul-blocks c = search needs
 
-sub-if1 : tie.Need-sub-if1
-sub-if1 c = search needs
+sub-at-most : tie.Need-sub-at-most
+sub-at-most c = search needs
+
+at-most-requires : tie.Need-at-most-requires
+at-most-requires c κs = search needs
 
 sub-places-losing-less-2 : tie.Need-sub-places-losing-less-2
 sub-places-losing-less-2 c = search needs
 
+add-places-losing-less : tie.Need-add-places-losing-less
+add-places-losing-less c = search needs
+
 places-losing-less-requires-2 : tie.Need-places-losing-less-requires-2
 places-losing-less-requires-2 c κs =
+    let blocks = c .before .places-losing-less .ensures in
+    let block = c .at-most .ensures in
     let entry = c .before .before in
-    places-rise (entry .pre .1) (entry .pre .0) (λ x at. omega (arith, at))
+    places-rise (entry .pre .1) (entry .pre .0) (λ x at. omega (arith, at, blocks .upto, block .upto))
+
+mul-parts : tie.Need-mul-parts
+mul-parts c = search needs
+
+sub-at-most-2 : tie.Need-sub-at-most-2
+sub-at-most-2 c = search needs
+
+at-most-requires-2 : tie.Need-at-most-requires-2
+at-most-requires-2 c κs = search needs
 
 add-result : tie.Need-add-result
 add-result c = search needs
 
-returns : tie.Need-returns
-returns c =
-    let blocks = c .before .before .places-losing-less .ensures in
-    block-less blocks (omega (arith, blocks .upto)) (inr (omega (arith, blocks .upto))) (c .places-losing-less2 .ensures)
+add-places-losing-less-2 : tie.Need-add-places-losing-less-2
+add-places-losing-less-2 c = search needs
 
 places-losing-less-requires-3 : tie.Need-places-losing-less-requires-3
 places-losing-less-requires-3 c κs =
-    let entry = c .before .before in
-    places-rise (entry .pre .1) (entry .pre .0) (λ x at. omega (arith, at, c .if1 .left))
+    let part = c .at-most2 .ensures in
+    let parts = c .before .places-losing-less2 .ensures in
+    let block = c .before .before .at-most .ensures in
+    let blocks = c .before .before .before .places-losing-less .ensures in
+    let entry = c .before .before .before .before in
+    places-rise (entry .pre .1) (entry .pre .0) (λ x at. omega (arith, at, part .upto, parts .upto, block .upto, blocks .upto))
 
 add-result-2 : tie.Need-add-result-2
 add-result-2 c = search needs
 
-returns-2 : tie.Need-returns-2
-returns-2 c =
-    let blocks = c .before .before .places-losing-less .ensures in
-    block-less blocks (omega (arith, blocks .upto, c .before .if1 .left)) (inl refl) (c .places-losing-less3 .ensures)
+returns : tie.Need-returns
+returns c =
+    let m = c .before in
+    let p = m .before in
+    let b = p .before in
+    let blocks = b .before .places-losing-less in
+    let parts = p .places-losing-less2 in
+    let inside = block-less (omega arith) (parts .ensures) (m .at-most2 .ensures) (c .places-losing-less3 .ensures) in
+    let all = blocks-less (omega arith) (blocks .ensures) (b .at-most .ensures) inside in
+    rw (add-assoc (36 * blocks .result) (6 * parts .result) (c .places-losing-less3 .result)) all
 
 pub losing-less-spec : {M : Type 1} → statement M
 losing-less-spec =
@@ -55,12 +81,17 @@ losing-less-spec =
     (tie.spec
     sub-places-losing-less
     places-losing-less-requires
-    mul-from
-    sub-if1
+    mul-blocks
+    sub-at-most
+    at-most-requires
     sub-places-losing-less-2
+    add-places-losing-less
     places-losing-less-requires-2
+    mul-parts
+    sub-at-most-2
+    at-most-requires-2
     add-result
-    returns
+    add-places-losing-less-2
     places-losing-less-requires-3
     add-result-2
-    returns-2)
+    returns)
