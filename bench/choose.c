@@ -25,20 +25,17 @@ static double seconds_for(chooser *f, const uint32_t jobs[], uint32_t budget, in
     return now() - start;
 }
 
-/* The best of several runs of each, by turns, so that what else the machine does falls on both. */
+/* The best of several runs of each, by turns. */
 static double ratio(const uint32_t jobs[], uint32_t budget, double *each)
 {
     int times = 1;
     while (seconds_for(walk_choose, jobs, budget, times) < 0.02)
         times *= 2;
-    double proved = 1e9, by_hand = 1e9;
-    for (int run = 0; run < 9; run++) {
-        double p = seconds_for(charopleth_choose, jobs, budget, times), h = seconds_for(walk_choose, jobs, budget, times);
-        proved = p < proved ? p : proved;
-        by_hand = h < by_hand ? h : by_hand;
-    }
-    *each = proved / times;
-    return proved / by_hand;
+    struct least least = untimed;
+    for (int run = 0; run < 9; run++)
+        timed(&least, seconds_for(charopleth_choose, jobs, budget, times), seconds_for(walk_choose, jobs, budget, times));
+    *each = least.proved / times;
+    return least.proved / least.by_hand;
 }
 
 static int failed;

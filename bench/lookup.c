@@ -39,21 +39,18 @@ static uint64_t compared(uint32_t budget)
     return have;
 }
 
-/* The best of several runs of each, by turns, so that what else the machine does falls on both. */
+/* The best of several runs of each, by turns. */
 static void measure(const char *name, uint32_t budget)
 {
     uint64_t result = compared(budget);
     int times = 1;
     while (seconds_for(finder_lookup, budget, times) < 0.02)
         times *= 2;
-    double proved = 1e9, by_hand = 1e9;
-    for (int run = 0; run < 9; run++) {
-        double p = seconds_for(charopleth_lookup, budget, times), h = seconds_for(finder_lookup, budget, times);
-        proved = p < proved ? p : proved;
-        by_hand = h < by_hand ? h : by_hand;
-    }
-    double ratio = proved / by_hand;
-    printf("%-30s refusal %2u, row %4" PRIu64 "  %10.1f us  %5.2f x the finder in C\n", name, CHAROPLETH_REFUSAL(result), CHAROPLETH_DETAIL(result), proved / times * 1e6, ratio);
+    struct least least = untimed;
+    for (int run = 0; run < 9; run++)
+        timed(&least, seconds_for(charopleth_lookup, budget, times), seconds_for(finder_lookup, budget, times));
+    double ratio = least.proved / least.by_hand;
+    printf("%-30s refusal %2u, row %4" PRIu64 "  %10.1f us  %5.2f x the finder in C\n", name, CHAROPLETH_REFUSAL(result), CHAROPLETH_DETAIL(result), least.proved / times * 1e6, ratio);
     if (ratio > most_of_finder)
         failed = 1;
     fflush(stdout);

@@ -69,24 +69,22 @@ struct rival {
 
 static const struct rival choices = {"one choice per row", by_choices, 8}, uncut = {"the same in C without the cut", walk_table_uncut, 100};
 
-/* In room for so many rows: against C, the best of several runs of each, by turns, so that what else the machine does falls on
- * both; and against a rival where one is given. */
+/* In room for so many rows: against C, the best of several runs of each, by turns; and against a rival where one is given. */
 static void measure(const char *name, const uint32_t jobs[], size_t rows, const struct rival *rival)
 {
     uint64_t answered = 0;
-    double proved = 1e9, by_hand = 1e9;
+    struct least least = untimed;
     for (int run = 0; run < RUNS; run++) {
         memset(have, 0xA5, sizeof have);
-        double p = seconds_for(charopleth_table, jobs, have, 16 * rows, &answered), h = seconds_like(name, walk_table, jobs, 16 * rows, answered);
-        proved = p < proved ? p : proved;
-        by_hand = h < by_hand ? h : by_hand;
+        double proved = seconds_for(charopleth_table, jobs, have, 16 * rows, &answered);
+        timed(&least, proved, seconds_like(name, walk_table, jobs, 16 * rows, answered));
     }
-    double ratio = proved / by_hand;
-    printf("%-28s room %5zu: refusal %2u, %6" PRIu64 " rows %8.3f s  %5.2f x the same in C", name, rows, CHAROPLETH_REFUSAL(answered), (uint64_t)CHAROPLETH_DETAIL(answered), proved, ratio);
+    double ratio = least.proved / least.by_hand;
+    printf("%-28s room %5zu: refusal %2u, %6" PRIu64 " rows %8.3f s  %5.2f x the same in C", name, rows, CHAROPLETH_REFUSAL(answered), (uint64_t)CHAROPLETH_DETAIL(answered), least.proved, ratio);
     if (ratio > most_of_walk)
         failed = 1;
     if (rival) {
-        double faster = seconds_like(name, rival->build, jobs, 16 * rows, answered) / proved;
+        double faster = seconds_like(name, rival->build, jobs, 16 * rows, answered) / least.proved;
         printf("  1/%.1f of %s", faster, rival->name);
         if (faster < rival->least)
             failed = 1;

@@ -36,14 +36,11 @@ static void measure(const char *name, uint32_t n, const uint32_t jobs[], int tim
         failed = 1;
         return;
     }
-    double proved = 1e9, by_hand = 1e9;
-    for (int run = 0; run < 5; run++) {
-        double p = seconds_for(charopleth_zones, n, jobs, have, length, times), h = seconds_for(lister_zones, n, jobs, want, length, times);
-        proved = p < proved ? p : proved;
-        by_hand = h < by_hand ? h : by_hand;
-    }
-    double ratio = proved / by_hand;
-    printf("%-30s %10zu zones  %12.1f us  %5.2f x the lister in C\n", name, rows, proved / times * 1e6, ratio);
+    struct least least = untimed;
+    for (int run = 0; run < 5; run++)
+        timed(&least, seconds_for(charopleth_zones, n, jobs, have, length, times), seconds_for(lister_zones, n, jobs, want, length, times));
+    double ratio = least.proved / least.by_hand;
+    printf("%-30s %10zu zones  %12.1f us  %5.2f x the lister in C\n", name, rows, least.proved / times * 1e6, ratio);
     if (ratio > most_of_lister || memcmp(have, want, length) != 0)
         failed = 1;
     free(have);
