@@ -1,13 +1,12 @@
 -- Rows that rise in loss are counted off: as long as a row loses less, so do all before it, and from the first that does not none does.
 -- Assumes nothing.
 use mathlib.Core.Path.{_≡_, _∙_, ap}
-use mathlib.Core.Logic.{⊎-elim}
 use mathlib.Core.List.{List}
-use Prim.Native.Nat.{ℕ, zero, suc, _+_, _*_, _-_, _/_, _≤_, _<_}
+use Prim.Native.Nat.{ℕ, zero, suc, _+_, _*_, _-_, _/_, _≤_, _<_, min}
 use native.Mathlib.Omega.{arith}
 use native.Mathlib.Nat.{zero-add, mul-zero, mul-suc, mul-comm, le-div-iff-mul-le, mul-le-mul-left}
 use native.Mathlib.Decide.{ℕ-discrete}
-use Rattle.table_stairs.specs.Rows.{most, lossIn, Rises, LosesLess, Lesser, PlacesRise, PlacesLoseLess}
+use Rattle.table_stairs.specs.Rows.{most, lossIn, Rises, LosesLess, PlacesRise, PlacesLoseLess}
 use Rattle.table_stairs.proofs.Rows.{loss-up}
 
 module _ {flat : List ℕ} {first step times l : ℕ} (rise : PlacesRise first step times flat) where
@@ -38,15 +37,15 @@ places-rise {flat} {k} {first} {step} {times} rises few inside = record {
   rise = λ x y to at. loss-up rises (first + step * x) (first + step * y) (omega (arith, mul-le-mul-left step to)) (inside y at);
 }
 
--- a product, and the step that leads to it
-step-back : (s b : ℕ) → 0 < s * b → s * b ≡ s * (b - 1) + s
+-- a product that is not 0, as one step more than the product before
+step-back : (s b : ℕ) → 0 < s * b → (0 < b) × (s * b ≡ s * (b - 1) + s)
 step-back s zero pos = absurd (omega (arith, pos, mul-zero s))
 step-back s (suc b) pos =
     let e : b ≡ suc b - 1 = omega arith in
-    mul-suc s b ∙ ap (λ (k : ℕ). s * k + s) e
+    (omega arith, mul-suc s b ∙ ap (λ (k : ℕ). s * k + s) e)
 
 -- rows from place a on: the last ones of whole blocks of s are counted off, then the block that is left
-pub block-less : {flat : List ℕ} {a m s l b r rest : ℕ} → 1 ≤ s → PlacesLoseLess flat (a + (s - 1)) s (m / s) l b → Lesser (m - s * b) s rest → PlacesLoseLess flat (a + s * b) 1 rest l r →
+pub block-less : {flat : List ℕ} {a m s l b r rest : ℕ} → 1 ≤ s → PlacesLoseLess flat (a + (s - 1)) s (m / s) l b → rest ≡ min (m - s * b) s → PlacesLoseLess flat (a + s * b) 1 rest l r →
     PlacesLoseLess flat a 1 m l (s * b + r)
 block-less {flat} {a} {m} {s} {l} {b} {r} {rest} pos blocks size inside = record {
   upto = omega (arith, fits, inside .upto);
@@ -58,7 +57,7 @@ block-less {flat} {a} {m} {s} {l} {b} {r} {rest} pos blocks size inside = record
     whole = rw (← mul-comm b s) (le-div-iff-mul-le pos .0 (blocks .upto))
 
     fits : s * b + rest ≤ m
-    fits = omega (arith, whole, size .upto)
+    fits = omega (arith, whole, size)
 
     at : {i j : ℕ} → i ≡ j → lossIn flat i ≡ lossIn flat j
     at e = ap (lossIn flat) e
@@ -66,12 +65,8 @@ block-less {flat} {a} {m} {s} {l} {b} {r} {rest} pos blocks size inside = record
     before : 0 < s * b + r → Dec (r ≡ 0) → lossIn flat (a + 1 * (s * b + r - 1)) < l
     before some (yes e) =
         let back = step-back s b (omega (arith, some, e)) in
-        let place : a + 1 * (s * b + r - 1) ≡ a + (s - 1) + s * (b - 1) = omega (arith, some, e, back, pos) in
-        rw (at place) (blocks .less (first-block b back))
-      where
-        first-block : (k : ℕ) → s * k ≡ s * (k - 1) + s → 0 < k
-        first-block zero back = absurd (omega (arith, back, mul-zero s, pos))
-        first-block (suc k) back = omega arith
+        let place : a + 1 * (s * b + r - 1) ≡ a + (s - 1) + s * (b - 1) = omega (arith, some, e, back .1, pos) in
+        rw (at place) (blocks .less (back .0))
     before some (no ne) =
         let place : a + 1 * (s * b + r - 1) ≡ a + s * b + 1 * (r - 1) = omega (arith, ne) in
         rw (at place) (inside .less (omega (arith, ne)))
@@ -80,8 +75,9 @@ block-less {flat} {a} {m} {s} {l} {b} {r} {rest} pos blocks size inside = record
     from more (no ne) =
         let place : a + 1 * (s * b + r) ≡ a + s * b + 1 * r = omega arith in
         rw (at place) (inside .no-less (omega (arith, ne, inside .upto)))
-    from more (yes e) = ⊎-elim (λ block. absurd (clash block)) (λ last. absurd (omega (arith, last, more, e, whole))) (size .one)
+    from more (yes e) = absurd (clash (omega (arith, size, more, e, whole)))
       where
+        -- rows are left behind the block, so it is whole, and its last row was counted
         clash : rest ≡ s → ⊥
         clash block =
             let place : a + s * b + 1 * (r - 1) ≡ a + (s - 1) + s * b = omega (arith, block, e, pos) in
@@ -101,6 +97,6 @@ all-less {flat} {k} {l} {r} p = record {
     one : (x : ℕ) → x ≡ 0 + 1 * x
     one x = omega arith
 
-pub blocks-less : {flat : List ℕ} {k s l b r rest : ℕ} → 1 ≤ s → PlacesLoseLess flat (s - 1) s (k / s) l b → Lesser (k - s * b) s rest → PlacesLoseLess flat (s * b) 1 rest l r →
+pub blocks-less : {flat : List ℕ} {k s l b r rest : ℕ} → 1 ≤ s → PlacesLoseLess flat (s - 1) s (k / s) l b → rest ≡ min (k - s * b) s → PlacesLoseLess flat (s * b) 1 rest l r →
     LosesLess flat k l (s * b + r)
 blocks-less {s = s} {b = b} pos blocks size inside = all-less (block-less pos (rw (zero-add (s - 1)) blocks) size (rw (zero-add (s * b)) inside))

@@ -1,7 +1,6 @@
 -- How a staircase stands in an array, three numbers for a row: the two words of a table row, need and eight periods, and the
 -- loss. The contracts of this crate cite this. Assumes nothing.
 use mathlib.Core.Path.{_≡_}
-use mathlib.Core.Logic.{_⊎_}
 use mathlib.Core.Bool.{Bool, true, false}
 use mathlib.Core.List.{List, [], _∷_, _++_}
 use Prim.Native.Nat.{ℕ, zero, suc, _+_, _*_, _-_, _≤_, _<_}
@@ -58,12 +57,6 @@ pub record LosesLess (flat : List ℕ) (k l r : ℕ) : Type 0 where
   pub upto : r ≤ k
   pub less : 0 < r → lossIn flat (r - 1) < l
   pub no-less : r < k → l ≤ lossIn flat r
-
--- The lesser of two numbers.
-pub record Lesser (many most r : ℕ) : Type 0 where
-  pub upto : r ≤ many
-  pub to : r ≤ most
-  pub one : (r ≡ most) ⊎ (r ≡ many)
 
 -- So many rows, the first at place `first` and each `step` places behind the one before, stand in the array and do not fall in loss.
 pub record PlacesRise (first step times : ℕ) (flat : List ℕ) : Type 0 where

@@ -4,10 +4,10 @@
 // functions serve other crates of the planner, and their callers meet what is required. Nothing is assumed.
 use model::PagesPerHour;
 ghost use mathlib.Core.Path.{_≡_};
-ghost use Prim.Native.Nat.{_≤_, _<_};
+ghost use Prim.Native.Nat.{_≤_, _<_, min};
 ghost use lib.ListN.{length};
 ghost use Rattle.table_stairs.specs.Stairs.{noBound};
-ghost use Rattle.table_stairs.specs.Rows.{Periods, Rises, LosesLess, Lesser, PlacesRise, PlacesLoseLess, Covers, NeedsLess, Moved, Stored};
+ghost use Rattle.table_stairs.specs.Rows.{Periods, Rises, LosesLess, PlacesRise, PlacesLoseLess, Covers, NeedsLess, Moved, Stored};
 
 // Where a row has its loss, behind its two words.
 const LOSS_PLACE: usize = 2;
@@ -44,20 +44,19 @@ pub fn losing_less(rows: &[u64; 768], count: usize, loss: u64) -> usize
     ensures { λ r. ⌜ LosesLess (now (rows .entry)) count loss r ⌝ }
 {
     let blocks = BLOCK * places_losing_less(rows, BLOCK - 1, BLOCK, count / BLOCK, loss);
-    let block = at_most(count - blocks, BLOCK);
+    let block = smaller(count - blocks, BLOCK);
     let parts = PART * places_losing_less(rows, blocks + (PART - 1), PART, block / PART, loss);
-    let part = at_most(block - parts, PART);
+    let part = smaller(block - parts, PART);
     blocks + parts + places_losing_less(rows, blocks + parts, 1, part, loss)
 }
 
-// So many, but at most `most`.
-fn at_most(many: usize, most: usize) -> usize
-    ensures { λ r. ⌜ Lesser many most r ⌝ }
+fn smaller(a: usize, b: usize) -> usize
+    ensures { λ r. ⌜ r ≡ min a b ⌝ }
 {
-    if many < most {
-        return many;
+    if a < b {
+        return a;
     }
-    most
+    b
 }
 
 // How many of so many rows, the first at place `first` and each `step` places behind the one before, lose less than `loss`.

@@ -18,11 +18,11 @@ places-losing-less-requires c κs = places-rise (c .pre .1) (c .pre .0) (λ x at
 mul-blocks : tie.Need-mul-blocks
 mul-blocks c = search needs
 
-sub-at-most : tie.Need-sub-at-most
-sub-at-most c = search needs
+sub-smaller : tie.Need-sub-smaller
+sub-smaller c = search needs
 
-at-most-requires : tie.Need-at-most-requires
-at-most-requires c κs = search needs
+smaller-requires : tie.Need-smaller-requires
+smaller-requires c κs = search needs
 
 sub-places-losing-less-2 : tie.Need-sub-places-losing-less-2
 sub-places-losing-less-2 c = search needs
@@ -33,18 +33,18 @@ add-places-losing-less c = search needs
 places-losing-less-requires-2 : tie.Need-places-losing-less-requires-2
 places-losing-less-requires-2 c κs =
     let blocks = c .before .places-losing-less .ensures in
-    let block = c .at-most .ensures in
+    let block = c .smaller .ensures in
     let entry = c .before .before in
-    places-rise (entry .pre .1) (entry .pre .0) (λ x at. omega (arith, at, blocks .upto, block .upto))
+    places-rise (entry .pre .1) (entry .pre .0) (λ x at. omega (arith, at, blocks .upto, block))
 
 mul-parts : tie.Need-mul-parts
 mul-parts c = search needs
 
-sub-at-most-2 : tie.Need-sub-at-most-2
-sub-at-most-2 c = search needs
+sub-smaller-2 : tie.Need-sub-smaller-2
+sub-smaller-2 c = search needs
 
-at-most-requires-2 : tie.Need-at-most-requires-2
-at-most-requires-2 c κs = search needs
+smaller-requires-2 : tie.Need-smaller-requires-2
+smaller-requires-2 c κs = search needs
 
 add-result : tie.Need-add-result
 add-result c = search needs
@@ -54,12 +54,12 @@ add-places-losing-less-2 c = search needs
 
 places-losing-less-requires-3 : tie.Need-places-losing-less-requires-3
 places-losing-less-requires-3 c κs =
-    let part = c .at-most2 .ensures in
+    let part = c .smaller2 .ensures in
     let parts = c .before .places-losing-less2 .ensures in
-    let block = c .before .before .at-most .ensures in
+    let block = c .before .before .smaller .ensures in
     let blocks = c .before .before .before .places-losing-less .ensures in
     let entry = c .before .before .before .before in
-    places-rise (entry .pre .1) (entry .pre .0) (λ x at. omega (arith, at, part .upto, parts .upto, block .upto, blocks .upto))
+    places-rise (entry .pre .1) (entry .pre .0) (λ x at. omega (arith, at, part, parts .upto, block, blocks .upto))
 
 add-result-2 : tie.Need-add-result-2
 add-result-2 c = search needs
@@ -71,8 +71,8 @@ returns c =
     let b = p .before in
     let blocks = b .before .places-losing-less in
     let parts = p .places-losing-less2 in
-    let inside = block-less (omega arith) (parts .ensures) (m .at-most2 .ensures) (c .places-losing-less3 .ensures) in
-    let all = blocks-less (omega arith) (blocks .ensures) (b .at-most .ensures) inside in
+    let inside = block-less (omega arith) (parts .ensures) (m .smaller2 .ensures) (c .places-losing-less3 .ensures) in
+    let all = blocks-less (omega arith) (blocks .ensures) (b .smaller .ensures) inside in
     rw (add-assoc (36 * blocks .result) (6 * parts .result) (c .places-losing-less3 .result)) all
 
 pub losing-less-spec : {M : Type 1} → statement M
@@ -82,14 +82,14 @@ losing-less-spec =
     sub-places-losing-less
     places-losing-less-requires
     mul-blocks
-    sub-at-most
-    at-most-requires
+    sub-smaller
+    smaller-requires
     sub-places-losing-less-2
     add-places-losing-less
     places-losing-less-requires-2
     mul-parts
-    sub-at-most-2
-    at-most-requires-2
+    sub-smaller-2
+    smaller-requires-2
     add-result
     add-places-losing-less-2
     places-losing-less-requires-3
