@@ -2,12 +2,12 @@
 -- Assumes nothing.
 use mathlib.Core.Path.{_≡_, refl, sym, _∙_, ap, ap₂, subst}
 use mathlib.Core.Logic.{_⊎_, inl, inr, ⊎-elim}
-use mathlib.Core.List.{List, [], _∷_, _++_, map, flatMap}
+use mathlib.Core.List.{List, [], _∷_, _++_, map, flatMap, append-nil, append-assoc}
 use mathlib.Core.List.{List·Memᴰ, List·Memᴰ·head, List·Memᴰ·tail, List·Memᴰ·not-nil, List·Memᴰ·cases-cons, Memᴰ·append-left, Memᴰ·append-right, Memᴰ·cast, Memᴰ·of-map, List·Memᴰ·append-cases}
-use Prim.Native.Nat.{ℕ, suc, _+_}
-use native.Mathlib.Nat.{add-zero}
+use Prim.Native.Nat.{ℕ, suc, _+_, _*_}
+use native.Mathlib.Nat.{add-zero, mul-zero, mul-suc}
 use native.Mathlib.Omega.{arith}
-use lib.ListN.{length, set}
+use lib.ListN.{length, set, length-append}
 use lib.Seq.{sets}
 use Rattle.model.specs.Model.{Rising}
 
@@ -29,6 +29,18 @@ flat-has {A} {B} f {y} {x} (a ∷ xs) m n = ⊎-elim here (λ k. Memᴰ·append-
   where
     here : x ≡ a → List·Memᴰ y (f a ++ flatMap f xs)
     here e = Memᴰ·append-left (flatMap f xs) (subst (λ (b : A). List·Memᴰ y (f b)) e n)
+
+-- parts of one size, joined, and one part more
+pub flat-length : {A B : Type 0} (f : A → List B) (size : ℕ) → ((x : A) → length (f x) ≡ size) → (xs : List A) → length (flatMap f xs) ≡ size * length xs
+unfolding flatMap
+flat-length f size each [] = sym (mul-zero size)
+flat-length f size each (x ∷ xs) =
+    length-append (f x) (flatMap f xs) ∙ omega (arith, each x, flat-length f size each xs, mul-suc size (length xs))
+
+pub flat-snoc : {A B : Type 0} (f : A → List B) (xs : List A) (x : A) → flatMap f (xs ++ (x ∷ [])) ≡ flatMap f xs ++ f x
+unfolding flatMap
+flat-snoc f [] x = append-nil (f x)
+flat-snoc f (y ∷ xs) x = ap (λ (l : List _). f y ++ l) (flat-snoc f xs x) ∙ sym (append-assoc (f y) (flatMap f xs) (f x))
 
 -- one part stored behind the other is both stored at once
 pub sets-append : {A : Type 0} (l : List A) (i : ℕ) (xs ys : List A) → sets (sets l i xs) (i + length xs) ys ≡ sets l i (xs ++ ys)

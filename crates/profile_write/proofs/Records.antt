@@ -12,6 +12,7 @@ use Rattle.model.specs.declared.Job.{Job}
 use Rattle.model.specs.declared.Profile.{Profile}
 use Rattle.model.specs.Model.{noJob, entries, jobsOf}
 use Rattle.model.proofs.Entries.{entries-snoc, length-entries}
+use Rattle.model.proofs.Lists.{flat-length, flat-snoc}
 use Rattle.codec.specs.Packing.{bits, pack, unpack, recut}
 use Rattle.codec.specs.Layout.{headerWidths, jobWidths, byteWidths, fieldsOf, recordBytes, profileBytes, profileLength}
 use Rattle.codec.proofs.Packing.{length-recut}
@@ -21,15 +22,12 @@ abbrev pub jobBytes : Job → List ℕ
 jobBytes j = recut jobWidths (byteWidths 8) (fieldsOf j)
 
 pub record-bytes-snoc : (js : List Job) (j : Job) → recordBytes (js ++ (j ∷ [])) ≡ recordBytes js ++ jobBytes j
-unfolding recordBytes flatMap
-record-bytes-snoc [] j = append-nil _
-record-bytes-snoc (i ∷ js) j = ap (λ (l : List ℕ). jobBytes i ++ l) (record-bytes-snoc js j) ∙ sym (append-assoc (jobBytes i) (recordBytes js) (jobBytes j))
+unfolding recordBytes
+record-bytes-snoc js j = flat-snoc jobBytes js j
 
 pub length-record-bytes : (js : List Job) → length (recordBytes js) ≡ 8 * length js
-unfolding recordBytes flatMap
-length-record-bytes [] = refl
-length-record-bytes (j ∷ js) =
-    length-append (jobBytes j) (recordBytes js) ∙ omega (arith, length-recut jobWidths (byteWidths 8) (fieldsOf j), length-record-bytes js)
+unfolding recordBytes
+length-record-bytes js = flat-length jobBytes 8 (λ j. length-recut jobWidths (byteWidths 8) (fieldsOf j)) js
 
 pub length-profile-bytes : (p : Profile) → length (profileBytes p) ≡ profileLength (p .n)
 unfolding profileBytes

@@ -1,11 +1,11 @@
 -- What building answers: the rows of the one table, put by the rule that all rows share.
 -- Assumes nothing.
-use mathlib.Core.Path.{_≡_, refl, _∙_, ap}
+use mathlib.Core.Path.{_≡_, _∙_, ap}
 use mathlib.Core.Logic.{_↔_}
-use mathlib.Core.List.{List, [], _∷_, _++_, flatMap}
+use mathlib.Core.List.{List, _++_}
 use Prim.Native.Nat.{ℕ, _*_}
 use native.Mathlib.Omega.{arith}
-use lib.ListN.{length, drop, length-append}
+use lib.ListN.{length, drop}
 use Rattle.model.specs.declared.Seconds.{Seconds}
 use Rattle.model.specs.declared.Job.{Job}
 use Rattle.model.specs.declared.Profile.{Profile}
@@ -14,6 +14,7 @@ use Rattle.model.specs.declared.Verdict.{Verdict}
 use Rattle.model.specs.declared.Verdict.the-variants.{Sound}
 use Rattle.model.specs.Model.{noJob, jobsOf, Permitted, verdictOf, need, rowSize, countVerdict, PutsFront}
 use Rattle.model.proofs.Entries.{length-entries}
+use Rattle.model.proofs.Lists.{flat-length}
 use Rattle.model.proofs.Validity.{sound-valid}
 use Rattle.model.proofs.FrontPut.{rows-put}
 use Rattle.table_row.specs.Table.{tableRow}
@@ -40,9 +41,8 @@ built p old put = record { rows = rowsOf p; are = are-rows p; none = none-of p; 
 
 -- rows one after the other
 pub length-table : (js : List Job) (rows : List (List Seconds)) → length (tableBytes js rows) ≡ rowSize * length rows
-unfolding tableBytes flatMap
-length-table js [] = refl
-length-table js (ts ∷ rows) = length-append (tableRow (need js ts) ts) (tableBytes js rows) ∙ omega (arith, length-table-row (need js ts) ts, length-table js rows)
+unfolding tableBytes
+length-table js rows = flat-length (λ (ts : List Seconds). tableRow (need js ts) ts) rowSize (λ ts. length-table-row (need js ts) ts) rows
 
 -- the same, where what was written is told by the rows counted
 pub all-built : (p : Profile) (old : List ℕ) (count : ℕ) → verdictOf p ≡ Sound → count ≡ length (rowsOf p) → {v : Verdict} → v ≡ countVerdict count (length old) → v ≡ Sound

@@ -10,6 +10,7 @@ use lib.ListN.{length, getD, take, drop, replicate, length-append, length-take, 
 use lib.Seq.{getD-take, getD-drop, take-at, drop-at, drop-drop, drop-append-add, append-snoc, length-take-le}
 use Rattle.model.specs.Model.{entries, rowSize}
 use Rattle.model.proofs.Entries.{getD-zeros, entries-same}
+use Rattle.model.proofs.Lists.{flat-length, flat-snoc}
 use Rattle.codec.specs.Packing.{bits, pack, recut}
 use Rattle.codec.specs.Layout.{byteWidths}
 use Rattle.codec.specs.RowWords.{rowBytes, withRow}
@@ -85,14 +86,12 @@ current-row w o beyond =
     row-of-words zoneWidths (zoneFields (current w)) (highAt w) (lowAt w) (ap (pack zoneWidths) same ∙ words l g ms) (omega arith) (omega arith)
 
 pub length-rows : (zs : List Zone) → length (rowsOf zs) ≡ rowSize * length zs
-unfolding rowsOf flatMap
-length-rows [] = refl
-length-rows (z ∷ zs) = length-append (rowOf z) (rowsOf zs) ∙ omega (arith, length-recut zoneWidths (byteWidths rowSize) (zoneFields z), length-rows zs)
+unfolding rowsOf
+length-rows zs = flat-length rowOf rowSize (λ z. length-recut zoneWidths (byteWidths rowSize) (zoneFields z)) zs
 
 rows-snoc : (zs : List Zone) (z : Zone) → rowsOf (zs ++ (z ∷ [])) ≡ rowsOf zs ++ rowOf z
-unfolding rowsOf flatMap
-rows-snoc [] z = append-nil _
-rows-snoc (y ∷ zs) z = ap (λ (l : List ℕ). rowOf y ++ l) (rows-snoc zs z) ∙ sym (append-assoc (rowOf y) (rowsOf zs) (rowOf z))
+unfolding rowsOf
+rows-snoc zs z = flat-snoc rowOf zs z
 
 -- what stands at place k of a list, and after it
 pub record Here (xs : List Zone) (k : ℕ) (y : Zone) (ys : List Zone) : Type 0 where
