@@ -1,6 +1,6 @@
 -- The arrays of a profile, filled from the last job back, hold its jobs.
 -- Assumes nothing.
-use mathlib.Core.Path.{_≡_, refl, sym, _∙_, ap, ap₂, subst}
+use mathlib.Core.Path.{_≡_, refl, sym, _∙_, ap, ap₂}
 use mathlib.Core.List.{List}
 use Prim.Native.Nat.{ℕ, zero, suc, _+_, _*_, _-_, _/_, _≤_, _<_}
 use native.Mathlib.Omega.{arith}
@@ -9,12 +9,12 @@ use native.Mathlib.Nat.{sub-zero}
 use lib.ListN.{length, getD, set, replicate, length-set, length-replicate, getD-replicate}
 use lib.Seq.{getD-set-same, getD-set-other}
 use Rattle.model.specs.declared.PagesPerHour.{PagesPerHour}
-use Rattle.model.specs.declared.Job.{Job}
 use Rattle.model.specs.declared.Profile.{Profile}
 use Rattle.model.specs.Model.{noJob, entries, jobsOf, load}
 use Rattle.model.specs.Most.{mostNeed}
-use Rattle.model.specs.Valid.{ValidJob, ValidJobs, Valid}
-use Rattle.model.proofs.Entries.{entries-step, entries-end}
+use Rattle.model.specs.Valid.{ValidJobs, Valid}
+use Rattle.model.proofs.Entries.{entries-step, entries-end, length-entries}
+use Rattle.model.proofs.Validity.{job-valid-at}
 use Rattle.step.specs.Step.{hourly}
 use Rattle.walk.specs.Walk.{leastNeeds}
 use Rattle.walk.specs.Arrays.{HoldsJob, HoldsJobs, Held, jobAt, Filled, first, second, Halves, SpansFrom, PagesFrom, needsFrom, RatesFrom, StiffnessesFrom}
@@ -35,20 +35,6 @@ filled-more place f {k} {to} xs v apart room is h m from less = go (ℕ-discrete
 filled-kept : (place f : ℕ → ℕ) {k to : ℕ} (xs : List ℕ) (at v : ℕ) → ((m : ℕ) → m < to → (place m ≡ at → ⊥)) → Filled place f k to xs → Filled place f k to (set xs at v)
 filled-kept place f {k} {to} xs at v apart h m from less = getD-set-other xs at (place m) v 0 (apart m less) ∙ h m from less
 
-valid-from : (js : List Job) (m i k : ℕ) → ValidJobs (entries noJob js i m) → i ≤ k → k < i + m → ValidJob (getD js k noJob)
-unfolding entries
-valid-from js zero i k h from less = absurd (omega arith)
-valid-from js (suc m) i k h from less = go (ℕ-discrete i k) (valid-from js m (i + 1) k (h .1))
-  where
-    go : Dec (i ≡ k) → (i + 1 ≤ k → k < i + 1 + m → ValidJob (getD js k noJob)) → ValidJob (getD js k noJob)
-    go (yes e) later = subst (λ (x : ℕ). ValidJob (getD js x noJob)) e (h .0)
-    go (no d) later = later (omega arith) (omega arith)
-
-entries-length : (js : List Job) (m i : ℕ) → length (entries noJob js i m) ≡ m
-unfolding entries
-entries-length js zero i = refl
-entries-length js (suc m) i = ap suc (entries-length js m (i + 1))
-
 -- what the jobs from the place before on need
 needs-step : (p : Profile) (k : ℕ) → 0 < k → k ≤ p .n → needsFrom p (k - 1) ≡ 3600 * load (jobAt p (k - 1)) / jobAt p (k - 1) .hi .0 + needsFrom p k
 unfolding leastNeeds
@@ -61,18 +47,15 @@ unfolding leastNeeds
 none-needed p = ap leastNeeds (entries-end noJob (p .jobs) (p .n) (p .n) (omega arith))
 
 module _ {p : Profile} (v : Valid p) where
-  pub valid-at : (k : ℕ) → k < p .n → ValidJob (jobAt p k)
-  valid-at k less = valid-from (p .jobs) (p .n) 0 k (v .jobs) (omega arith) (omega arith)
-
   valid-later : (m k : ℕ) → k + m ≡ p .n → ValidJobs (entries noJob (p .jobs) k m)
   unfolding entries
   valid-later zero k e = tt
-  valid-later (suc m) k e = (valid-at k (omega arith), valid-later m (k + 1) (omega arith))
+  valid-later (suc m) k e = (job-valid-at p k v (omega arith), valid-later m (k + 1) (omega arith))
 
   pub needs-to : (k : ℕ) → k ≤ p .n → needsFrom p k ≤ mostNeed
   needs-to k to =
       let b = least-needs-bound (entries noJob (p .jobs) k (p .n - k)) (valid-later (p .n - k) k (omega arith)) in
-      let l = entries-length (p .jobs) (p .n - k) k in
+      let l = length-entries noJob (p .jobs) k (p .n - k) in
       let n≤ = v .n-to in
       omega arith
 
@@ -136,7 +119,7 @@ module _ {p : Profile} (v : Valid p) where
             let less : i < p .n = omega arith in
             let from : 0 ≤ i = omega arith in
             record {
-              valid = valid-at i less;
+              valid = job-valid-at p i v less;
               shortest = s .front i from less;
               longest = s .back i from less;
               for-need = g .front i from less;
@@ -148,7 +131,7 @@ module _ {p : Profile} (v : Valid p) where
 
     pub all-held : Held spans pages rates stiffnesses 0 (p .n) (jobsOf p)
     all-held =
-        let l = entries-length (p .jobs) (p .n) 0 in
+        let l = length-entries noJob (p .jobs) 0 (p .n) in
         record {
           count = omega arith;
           most = v .n-to;

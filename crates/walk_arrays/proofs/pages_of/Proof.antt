@@ -3,7 +3,8 @@
 use mathlib.Core.Path.{_≡_}
 use Prim.Native.Nat.{_-_, _≤_}
 use Rattle.walk.specs.Arrays.{PagesFrom}
-use Rattle.walk.proofs.Filled.{valid-at, none-filled, one-filled}
+use Rattle.model.proofs.Validity.{job-valid-at}
+use Rattle.walk.proofs.Filled.{none-filled, one-filled}
 use borrow.Author.Needs.{needs}
 use native.Mathlib.Omega.{arith}
 use Rattle.walk_arrays.proofs.pages_of.Statement.{statement}
@@ -35,7 +36,7 @@ need-pages-requires c κs =
     let l = c .before .before .loop in
     let s = c .before .before .before in
     let pos = c .before .loop-test .taken in
-    valid-at (s .pre) (l .k - 1) (omega (arith, l .inv .0))
+    job-valid-at _ (l .k - 1) (s .pre) (omega (arith, l .inv .0))
 
 mul-pages : tie.Need-mul-pages Inv-loop μ-loop
 mul-pages c = search needs
@@ -48,7 +49,7 @@ loss-pages-requires c κs =
     let l = c .before .before .before .loop in
     let s = c .before .before .before .before in
     let pos = c .before .before .loop-test .taken in
-    valid-at (s .pre) (l .k - 1) (omega (arith, l .inv .0))
+    job-valid-at _ (l .k - 1) (s .pre) (omega (arith, l .inv .0))
 
 add-pages : tie.Need-add-pages Inv-loop μ-loop
 add-pages c = search needs

@@ -8,7 +8,8 @@ use Rattle.model.specs.declared.Profile.{Profile}
 use Rattle.model.specs.Valid.{ValidJob}
 use Rattle.model.proofs.Bounds.{load-bound}
 use Rattle.walk.specs.Arrays.{jobAt, needsFrom, RatesFrom}
-use Rattle.walk.proofs.Filled.{valid-at, needs-to, none-needed, one-needed, none-rated, one-filled}
+use Rattle.model.proofs.Validity.{job-valid-at}
+use Rattle.walk.proofs.Filled.{needs-to, none-needed, one-needed, none-rated, one-filled}
 use borrow.Author.Needs.{needs}
 use native.Mathlib.Omega.{arith}
 use Rattle.walk_arrays.proofs.rates_of.Statement.{statement}
@@ -29,7 +30,7 @@ abbrev μ-loop : tie.MeasureT-loop
 valid : (c : tie.In-loop Inv-loop μ-loop) → ValidJob (jobAt (c .before .before .args .t1) (c .before .loop .k - 1))
 valid c =
     let pos = c .loop-test .taken in
-    valid-at (c .before .before .pre) (c .before .loop .k - 1) (omega (arith, c .before .loop .inv .upto))
+    job-valid-at _ (c .before .loop .k - 1) (c .before .before .pre) (omega (arith, c .before .loop .inv .upto))
 
 cast-k : tie.Need-cast-k Inv-loop μ-loop
 cast-k c = search needs
