@@ -27,7 +27,7 @@ use Rattle.model.proofs.ProfileFirst.{computed-first}
 use Rattle.score.proofs.Computed.{scoreFor, score-meets}
 use Rattle.score.proofs.OneOutcome.{scores-one}
 use Rattle.choose.specs.declared.Choice.{Choice}
-use Rattle.choose.specs.Choice.{noChoice, Outcome, Chosen}
+use Rattle.choose.specs.Choice.{noChoice, Chosen}
 use Rattle.walk.specs.Chains.{chains}
 use Rattle.walk.specs.Walk.{start, walk, walkDown}
 use Rattle.walk.proofs.Chains.{multiples-lists, chains-only, chains-all}

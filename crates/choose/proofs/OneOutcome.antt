@@ -8,7 +8,6 @@ use Rattle.model.specs.declared.Seconds.{Seconds}
 use Rattle.model.specs.declared.PagesPerHour.{PagesPerHour}
 use Rattle.model.specs.declared.Job.{Job}
 use Rattle.model.specs.declared.Profile.{Profile}
-use Rattle.model.specs.declared.Verdict.{Verdict}
 use Rattle.model.specs.declared.Verdict.the-variants.{Budget}
 use Rattle.model.specs.Model.{seconds, pagesPerHour, need, loss, NotAfter, NoWorse, Best}
 use Rattle.model.proofs.ProfileFirst.{one-first}

@@ -1,7 +1,7 @@
 -- `walk::need_floor` meets its contract: it asks that the sum fit.
 -- Assumes nothing.
 use mathlib.Core.Path.{ap}
-use Prim.Native.Nat.{ℕ, _+_}
+use Prim.Native.Nat.{_+_}
 use native.Mathlib.Omega.{arith}
 use lib.ListN.{getD}
 use Rattle.model.specs.declared.PagesPerHour.{PagesPerHour}
