@@ -5,6 +5,7 @@ They share nothing with the crates, so that what is stored as right is no copy o
 from fractions import Fraction
 from math import ceil
 
+# lo, hi, data, metadata, stiffness, spare.
 WIDTHS = (12, 12, 15, 15, 6, 4)
 A = [(20, 25, 9, 1, 1), (43, 74, 18, 2, 1), (45, 100, 36, 4, 1)]
 

@@ -1,4 +1,5 @@
 pub mod Bytes
+pub mod Fields
 pub mod OneOutcome
 pub mod Packing
 pub mod Rows

@@ -1,5 +1,5 @@
--- Fields that fit their widths, and bytes: what theorems on packing, on reading back and on the one table are stated with. No contract
--- cites this. Assumes nothing.
+-- Fields that fit their widths, and bytes: what theorems on packing, on reading back and on the one table are stated with. An inner
+-- function asks for such fields; no contract of an entry point cites this. Assumes nothing.
 use mathlib.Core.List.{List, [], _∷_}
 use Prim.Native.Nat.{ℕ, _^_, _<_}
 use lib.ListN.{length}

@@ -160,28 +160,19 @@ fn record_at(bytes: &[u8], k: usize) -> Record
     cut_record(codec::word_at(bytes, 1 + 8 * k))
 }
 
-// The fields of a record: each is what is above the bits of those after it.
+// The record in a word: its fields in the order of their widths.
 fn cut_record(x: u64) -> Record
     ensures { λ r. ⌜ r ≡ recordOf (unpack jobWidths x) ⌝ }
 {
-    let lo = x / 0x10_0000_0000_0000;
-    let from_hi = x % 0x10_0000_0000_0000;
-    let hi = from_hi / 0x100_0000_0000;
-    let from_data = from_hi % 0x100_0000_0000;
-    let data = from_data / 0x200_0000;
-    let from_metadata = from_data % 0x200_0000;
-    let metadata = from_metadata / 0x400;
-    let from_stiffness = from_metadata % 0x400;
-    let stiffness = from_stiffness / 0x10;
-    let spare = from_stiffness % 0x10;
+    let fields = codec::unpack_fields(x);
     Record {
         job: Job {
-            lo: Seconds(lo as u32),
-            hi: Seconds(hi as u32),
-            data: data as u32,
-            metadata: metadata as u32,
-            stiffness: stiffness as u32,
+            lo: Seconds(fields[0]),
+            hi: Seconds(fields[1]),
+            data: fields[2],
+            metadata: fields[3],
+            stiffness: fields[4],
         },
-        spare: spare as u32,
+        spare: fields[5],
     }
 }

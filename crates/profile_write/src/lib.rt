@@ -55,13 +55,10 @@ fn fill(p: Profile, out: &mut [u8])
     }
 }
 
-// The record of a valid job: the spare bits stay zero.
+// The record of a valid job: its fields in the order of their widths, the spare bits zero.
 fn pack_record(j: Job) -> u64
     requires { ⌜ ValidJob j ⌝ }
     ensures { λ r. ⌜ r ≡ pack jobWidths (fieldsOf j) ⌝ }
 {
-    (j.lo.0 as u64) * 0x10_0000_0000_0000
-        + ((j.hi.0 as u64) * 0x100_0000_0000
-            + ((j.data as u64) * 0x200_0000
-                + ((j.metadata as u64) * 0x400 + (j.stiffness as u64) * 0x10)))
+    codec::pack_fields([j.lo.0, j.hi.0, j.data, j.metadata, j.stiffness, 0])
 }
