@@ -90,8 +90,7 @@ int main(void)
         for (uint32_t n = 0; n <= 9; n++) {
             uint32_t broken[CHAROPLETH_JOBS_LENGTH];
             memcpy(broken, jobs[p], sizeof broken);
-            break_profile(n, broken);
-            compare_writers(n, broken, LENGTH);
+            compare_writers(break_profile(n, broken), broken, LENGTH);
             compare_writers(n, jobs[p], 8 * n);
             compare_writers(n, jobs[p], LENGTH);
         }
