@@ -53,7 +53,7 @@ uint64_t finder_lookup(uint32_t n, const uint32_t jobs[], const uint8_t *table, 
     if (verdict != 0)
         return verdict;
     if (length == 0 || length % 16 != 0)
-        return (uint64_t)12 << 48;
+        return refusal(12, 0);
     struct numbers j = {.n = n};
     for (uint32_t i = 0; i < n; i++) {
         struct job job = get_job(jobs, i);
@@ -66,9 +66,9 @@ uint64_t finder_lookup(uint32_t n, const uint32_t jobs[], const uint8_t *table, 
     }
     size_t k = length / 16, bad = first_bad_row(&j, table, k);
     if (bad != 0)
-        return (uint64_t)12 << 48 | bad;
+        return refusal(12, bad);
     if (budget < start_at(table, 0))
-        return (uint64_t)10 << 48 | start_at(table, 0);
+        return refusal(10, start_at(table, 0));
     while (start_at(table, k - 1) > budget)
         k--;
     return k;

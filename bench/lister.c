@@ -69,9 +69,9 @@ uint64_t lister_zones(uint32_t n, const uint32_t jobs[], uint8_t *room, size_t l
     for (int found = first_zone(&w); found; found = next_zone(&w))
         count++;
     if (count == 0)
-        return (uint64_t)9 << 48;
+        return refusal(9, 0);
     if (length / 16 < count)
-        return (uint64_t)11 << 48 | count;
+        return refusal(11, count);
     for (uint32_t i = 0; i < 8; i++)
         w.multipliers[i] = 0;
     uint8_t *row = room;

@@ -6,8 +6,6 @@
 #include "reference.h"
 #include "word.h"
 
-static uint64_t refusal(uint64_t number, uint64_t detail) { return number << 48 | detail; }
-
 uint64_t packer_read(const uint8_t *profile, size_t length, uint32_t values[])
 {
     if (length == 0)

@@ -29,9 +29,9 @@ static uint64_t by_choices(uint32_t n, const uint32_t jobs[], uint8_t *room, siz
     for (; limit > 0 && (result = charopleth_choose(n, jobs, (uint32_t)(limit - 1), answer)) == 0; limit = answer[CHAROPLETH_NEED])
         rows++;
     if (rows == 0)
-        return CHAROPLETH_REFUSAL(result) == 10 ? (uint64_t)9 << 48 : result;
+        return CHAROPLETH_REFUSAL(result) == 10 ? refusal(9, 0) : result;
     if (length / 16 < rows)
-        return (uint64_t)11 << 48 | rows;
+        return refusal(11, rows);
     limit = (uint64_t)1 << 32;
     for (uint64_t row = rows; row-- > 0; limit = answer[CHAROPLETH_NEED]) {
         charopleth_choose(n, jobs, (uint32_t)(limit - 1), answer);

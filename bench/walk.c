@@ -122,7 +122,7 @@ uint64_t walk_choose(uint32_t n, const uint32_t jobs[], uint32_t budget, uint64_
     find_best(&w, 0, 1, 0, 0);
     if (w.loss == UINT64_MAX) {
         uint32_t least = least_need(&w, 0, 1, 0, UINT32_MAX);
-        return least == UINT32_MAX ? (uint64_t)9 << 48 : (uint64_t)10 << 48 | least;
+        return least == UINT32_MAX ? refusal(9, 0) : refusal(10, least);
     }
     answer[CHAROPLETH_NEED] = w.need;
     answer[CHAROPLETH_LOSS] = w.loss;
@@ -257,9 +257,9 @@ static uint64_t table(uint32_t n, const uint32_t jobs[], uint8_t *room, size_t l
         rows += s.count;
     }
     if (rows == 0)
-        return (uint64_t)9 << 48;
+        return refusal(9, 0);
     if (length / 16 < rows)
-        return (uint64_t)11 << 48 | rows;
+        return refusal(11, rows);
     uint64_t left = rows;
     for (uint64_t limit = all; left > 0; limit = need_in(&s, s.count - 1)) {
         next_answers(n, jobs, limit, without_cut, &s);

@@ -1,4 +1,5 @@
-/* A job by the names of its numbers, taken from and put to its place among those that charopleth.h's functions take. */
+/* A job by the names of its numbers, taken from and put to its place among those that charopleth.h's functions take; and a refusal as
+ * these functions return it. */
 #ifndef JOBS_H
 #define JOBS_H
 
@@ -35,5 +36,7 @@ static inline void put_jobs(uint32_t jobs[], const struct job given[CHAROPLETH_M
     for (uint32_t i = 0; i < CHAROPLETH_MOST_JOBS; i++)
         put_job(jobs, i, given[i]);
 }
+
+static inline uint64_t refusal(uint64_t number, uint64_t detail) { return number << 48 | detail; }
 
 #endif

@@ -5,8 +5,6 @@
 
 #include "jobs.h"
 
-static uint64_t refusal(uint64_t number, uint64_t detail) { return number << 48 | detail; }
-
 uint64_t reference_judge(uint32_t n, const uint32_t jobs[])
 {
     if (n == 0 || n > 8)
