@@ -13,7 +13,7 @@ use Rattle.model.specs.declared.Profile.{Profile}
 use Rattle.model.specs.declared.Counted.{Counted}
 use Rattle.model.specs.declared.Verdict.{Verdict}
 use Rattle.model.specs.declared.Verdict.the-variants.{Sound, NoPeriods, Room}
-use Rattle.model.specs.Model.{seconds, pagesPerHour, jobsOf, numberOf, refuseIf, orElse, ifSound, verdictOf, countVerdict}
+use Rattle.model.specs.Model.{seconds, pagesPerHour, jobsOf, periodsOf, pagesIn, numberOf, refuseIf, orElse, ifSound, verdictOf, countVerdict}
 use Rattle.model.proofs.Validity.{sound-valid}
 use Rattle.model.proofs.Verdicts.{sound-of-zero, beside-sound}
 use Rattle.codec.specs.Layout.{profileLength, profileBytes}
@@ -49,7 +49,7 @@ use Rattle.table.proofs.OneOutcome.{built-one}
 use Rattle.table_lookup.specs.Lookup.{Locates}
 use Rattle.table_lookup.proofs.Computed.{locateFor, locate-meets}
 use Rattle.table_lookup.proofs.OneOutcome.{locates-one}
-use Rattle.cases.specs.Case.{Case, reading, writing, writingIn, permitting, scoring, choosing, listing, listingIn, building, buildingIn, lookingUp, Right}
+use Rattle.cases.specs.Case.{Case, reading, writing, writingIn, permitting, counting, scoring, choosing, listing, listingIn, building, buildingIn, lookingUp, Right}
 
 -- choosing: what both walks leave, unless the profile is refused
 unfoldable pub choiceFor : Profile → ℕ → Choice
@@ -134,6 +134,7 @@ anew (writingIn p old answer new) =
     let v = withRoom (verdictOf p) (profileLength (p .n)) (length old) in
     writingIn p old (counted v (profileLength (p .n))) (after v (profileBytes p) old)
 anew (permitting p verdict lists) = permitting p (verdictOf p) (chains (seconds 1) (jobsOf p))
+anew (counting p ts time pages) = counting p ts time (pagesIn (seconds time) (jobsOf p) (periodsOf p ts))
 anew (scoring p ts answer) = scoring p ts (scoreFor p ts)
 anew (choosing p b answer) = choosing p b (choiceFor p b)
 anew (listing p answer bytes) =
@@ -180,6 +181,7 @@ anew-right (permitting p verdict lists) = (
       (let v = sound-valid p sound .jobs in
       (chains-all multiples-lists (jobsOf p) ts v (le-refl 1), chains-only multiples-lists (jobsOf p) ts v (le-refl 1))),
 )
+anew-right (counting p ts time pages) = refl
 anew-right (scoring p ts answer) = λ r scores. scores-one p ts scores (score-meets p ts)
 anew-right (choosing p b answer) = λ r chosen. chosen-one p (pagesPerHour b) chosen (choice-meets p b)
 anew-right (listing p answer bytes) = λ old room r new is. rows-in-room p (length (zonesOf p)) (rowsOf (zonesOf p)) old (length-rows (zonesOf p)) room (list-computed p old is)

@@ -1,14 +1,15 @@
--- Document 01's numbers are right: computing every answer anew gives the same list of cases, and what is computed is right.
+-- The numbers of the list are right: computing every answer anew gives the same list of cases, and what is computed is right.
 -- Assumes nothing.
 use mathlib.Core.Path.{_≡_, refl, _∙_, sym, ap, subst}
 use mathlib.Core.List.{List, [], _∷_, map, flatMap, List·Memᴰ, List·Memᴰ·head, List·Memᴰ·tail}
-use Rattle.model.specs.Model.{entries, load, cost, lastOf, pagesIn, need, rate, jobLoss, loss, verdictOf, refuseIf, orElse, ifSound, firstRefused, judgeIntervalAndStiffness, judgeJob}
+use Rattle.model.specs.Model.{entries, cost, lastOf, running, dataOf, commitOf, pagesAt, sumOver, pagesIn, need, rate, jobLoss, loss, verdictOf, refuseIf, orElse, ifSound, firstRefused, judgeIntervalAndStiffness, judgeJob}
 use Rattle.model.specs.Climb.{inTurn, climbTo, descendTo}
 use Rattle.model.specs.Testing.{allows}
 use Rattle.codec.specs.Packing.{bits, pack, unpack, recut}
 use Rattle.codec.specs.Layout.{recordBytes, profileBytes}
 use Rattle.table_row.specs.Table.{tableRow}
 use Rattle.profile_read.specs.Reading.{headerOf, recordsIn, judgeRecord, judgeHeader, verdictOfBytes}
+use Rattle.step.specs.Step.{load}
 use Rattle.score.specs.Judging.{judgePeriod, firstUnpermitted}
 use Rattle.score.proofs.Computed.{scoredBy, scoreFor}
 use Rattle.walk.specs.Chains.{risingFrom, multiples, fallingFrom, multiplesDown, chainsBy}
@@ -32,7 +33,7 @@ use Rattle.cases.proofs.Anew.{choiceFor, readingFor, counted, after, ro
 unfoldable pub Computed : List Case → Type 0
 unfolding anew readingFor verdictOfBytes judgeHeader headerOf recordsIn judgeRecord profileBytes recordBytes chainsBy choiceFor scoreFor counted after
     roomy settle walkBy visit pick lessNeed beats multiples risingFrom climbTo multiplesDown fallingFrom descendTo inTurn load cost rate jobLoss entries
-    verdictOf refuseIf orElse ifSound firstRefused judgeIntervalAndStiffness judgeJob need loss pagesIn lastOf scoredBy firstUnpermitted judgePeriod
+    verdictOf refuseIf orElse ifSound firstRefused judgeIntervalAndStiffness judgeJob need loss pagesIn sumOver pagesAt running dataOf commitOf lastOf scoredBy firstUnpermitted judgePeriod
     zonesIn zonesBelow unlessEmpty flatMap rowsOf recut pack unpack bits tableBytes tableRow descent upTo locateFor findFor wholeRows firstBad rowGood
     permits zerosFrom afterGood allows rowFields lastWithin
 Computed cs = map anew cs ≡ cs

@@ -32,13 +32,13 @@ differ : {A : Type 0} (number-of : A → ℕ) {x y : A} → x ≡ y → eqb (num
 differ number-of e unequal = eqb-false _ _ unequal (ap number-of e)
 
 -- what the contracts allow at the inputs tried
-at-4320 : (f : Chooser) → ChoosesFor profileA 4320 f → f profileA (pagesPerHour 4320) ≡ plan 4320 3281956 (25 ∷ 50 ∷ 100 ∷ [])
+at-4176 : (f : Chooser) → ChoosesFor profileA 4176 f → f profileA (pagesPerHour 4176) ≡ plan 4176 3281956 (25 ∷ 50 ∷ 100 ∷ [])
 unfolding Computed
-at-4320 f = right (choosing profileA 4320 (plan 4320 3281956 (25 ∷ 50 ∷ 100 ∷ []))) refl _
+at-4176 f = right (choosing profileA 4176 (plan 4176 3281956 (25 ∷ 50 ∷ 100 ∷ []))) refl _
 
-at-5400 : (f : Chooser) → ChoosesFor profileA 5400 f → f profileA (pagesPerHour 5400) ≡ plan 5400 864676 (20 ∷ 60 ∷ 60 ∷ [])
+at-5220 : (f : Chooser) → ChoosesFor profileA 5220 f → f profileA (pagesPerHour 5220) ≡ plan 5220 864676 (20 ∷ 60 ∷ 60 ∷ [])
 unfolding Computed
-at-5400 f = right (choosing profileA 5400 (plan 5400 864676 (20 ∷ 60 ∷ 60 ∷ []))) refl _
+at-5220 f = right (choosing profileA 5220 (plan 5220 864676 (20 ∷ 60 ∷ 60 ∷ []))) refl _
 
 nine-rows : (f : Filler) → MeetsAt Built profileA (lent 144) f → (f profileA (lent 144) .0 ≡ number 9) × (f profileA (lent 144) .1 ≡ tableA)
 unfolding Computed
@@ -62,14 +62,14 @@ bytes-of-A f = right (writingIn profileA (lent 25) (number 25) bytesA) refl _ _
 
 -- The seven.
 
-pub no-refuser : (f : Chooser) → RefusesEverything f → ChoosesFor profileA 4320 f → ⊥
-no-refuser f refuses meets = refuses profileA (pagesPerHour 4320) (rw (at-4320 f meets) refl)
+pub no-refuser : (f : Chooser) → RefusesEverything f → ChoosesFor profileA 4176 f → ⊥
+no-refuser f refuses meets = refuses profileA (pagesPerHour 4176) (rw (at-4176 f meets) refl)
 
-pub no-fixed-plan : (f : Chooser) → GivesOnePlan f → ChoosesFor profileA 4320 f → ChoosesFor profileA 5400 f → ⊥
+pub no-fixed-plan : (f : Chooser) → GivesOnePlan f → ChoosesFor profileA 4176 f → ChoosesFor profileA 5220 f → ⊥
 no-fixed-plan f fixed meets meets-more =
-    let one = at-4320 f meets in
-    let other = at-5400 f meets-more in
-    let same = fixed profileA (pagesPerHour 4320) (pagesPerHour 5400) (rw one refl) (rw other refl) in
+    let one = at-4176 f meets in
+    let other = at-5220 f meets-more in
+    let same = fixed profileA (pagesPerHour 4176) (pagesPerHour 5220) (rw one refl) (rw other refl) in
     differ (λ ts. getD ts 0 (seconds 0) .0) (rw (one, other) at same) refl
 
 pub no-rowless-builder : (f : Filler) → StoresNothing f → MeetsAt Built profileA (lent 144) f → ⊥

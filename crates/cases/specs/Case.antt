@@ -11,7 +11,7 @@ use Rattle.model.specs.declared.Profile.{Profile}
 use Rattle.model.specs.declared.Counted.{Counted}
 use Rattle.model.specs.declared.Verdict.{Verdict}
 use Rattle.model.specs.declared.Verdict.the-variants.{Sound, Budget}
-use Rattle.model.specs.Model.{seconds, pagesPerHour, noJob, jobsOf, Permitted, verdictOf, padded}
+use Rattle.model.specs.Model.{seconds, pagesPerHour, noJob, jobsOf, periodsOf, Permitted, pagesIn, verdictOf, padded}
 use Rattle.profile_read.specs.declared.Reading.{Reading}
 use Rattle.profile_read.specs.Reading.{noProfile, Reads}
 use Rattle.profile_write.specs.Writing.{Writes}
@@ -30,6 +30,7 @@ pub data Case : Type 0 where
   writing : Profile → Counted → (bytes : List ℕ) → Case
   writingIn : Profile → (old : List ℕ) → Counted → (new : List ℕ) → Case
   permitting : Profile → Verdict → (lists : List (List Seconds)) → Case
+  counting : Profile → (periods : List Seconds) (time pages : ℕ) → Case
   scoring : Profile → (periods : List Seconds) → Scored → Case
   choosing : Profile → (budget : ℕ) → Choice → Case
   listing : Profile → Counted → (bytes : List ℕ) → Case
@@ -46,12 +47,14 @@ Only allows answer left = (r : Counted) (new : List ℕ) → allows r new → (r
 abbrev pub InAnyRoom : (List ℕ → Counted → List ℕ → Type 0) → Counted → List ℕ → Type 0
 InAnyRoom allows answer bytes = (old : List ℕ) → length bytes ≤ length old → Only (allows old) answer (bytes ++ drop (length bytes) old)
 
--- A case is right when whatever the public contract allows is what must come out; the permitted lists are these and no others.
+-- A case is right when whatever the public contract allows is what must come out; the permitted lists are these and no others, and the
+-- pages of so many seconds are those that the definition counts.
 abbrev pub Right : Case → Type 0
 Right (reading bytes answer) = (r : Reading) → Reads bytes r → r ≡ answer
 Right (writing p answer bytes) = InAnyRoom (Writes p) answer bytes
 Right (writingIn p old answer new) = Only (Writes p old) answer new
 Right (permitting p verdict lists) = (verdictOf p ≡ verdict) × (verdict ≡ Sound → (ts : List Seconds) → Permitted (jobsOf p) ts ↔ List·Memᴰ ts lists)
+Right (counting p ts time pages) = pagesIn (seconds time) (jobsOf p) (periodsOf p ts) ≡ pages
 Right (scoring p ts answer) = (r : Scored) → Scores p ts r → r ≡ answer
 Right (choosing p b answer) = (r : Choice) → Chosen p (pagesPerHour b) r → r ≡ answer
 Right (listing p answer bytes) = InAnyRoom (Listed p) answer bytes

@@ -1,4 +1,5 @@
--- Document 01's numbers, and some more of the kind, as one list: an entry says what is asked, of which profile, and what must come out.
+-- The numbers of document 01 and of ticket 3, and some more of the kind, as one list: an entry says what is asked, of which profile, and
+-- what must come out.
 -- Assumes nothing.
 use mathlib.Core.List.{List, [], _∷_, _++_, map}
 use Prim.Native.Nat.{ℕ}
@@ -12,7 +13,7 @@ use Rattle.model.specs.ProfileA.{bytesA}
 use Rattle.score.specs.Scoring.{noScore}
 use Rattle.choose.specs.Choice.{noChoice}
 use Rattle.table_lookup.specs.Lookup.{noCount}
-use Rattle.cases.specs.Case.{Case, reading, writing, writingIn, permitting, scoring, choosing, listing, listingIn, building, buildingIn, lookingUp}
+use Rattle.cases.specs.Case.{Case, reading, writing, writingIn, permitting, counting, scoring, choosing, listing, listingIn, building, buildingIn, lookingUp}
 use Rattle.cases.specs.Case.{job, interval, profile, values, noValues, eight, plan, scored, below, number, lent, rows}
 
 -- The profile that document 01 works with, as values; its bytes stand in model.
@@ -26,35 +27,43 @@ profileA = profile jobsA
 abbrev pub atSeven : Profile
 atSeven = profile (interval 7 7 ∷ [])
 
+-- Three jobs: the second commits no more than the first, the third more.
+abbrev pub hidden : Profile
+hidden = profile (job 10 10 1 5 1 ∷ job 10 20 2 3 1 ∷ job 40 40 0 9 1 ∷ [])
+
+-- Two jobs: the second writes metadata alone, and less than the first.
+abbrev pub allHidden : Profile
+allHidden = profile (job 10 10 1 5 1 ∷ job 10 20 0 3 1 ∷ [])
+
 -- Three jobs that one list of periods alone suits (P6).
 abbrev pub oneList : Profile
 oneList = profile (interval 1 1 ∷ interval 2 6 ∷ interval 35 35 ∷ [])
 
--- A's table: the rows at 4,320, 4,500, 5,143 and 5,400, and the whole.
+-- A's table: the rows at 4,176, 4,350, 4,972 and 5,220, and the whole.
 abbrev pub row₁ : List ℕ
-row₁ = 0x00 ∷ 0x00 ∷ 0x10 ∷ 0xE0 ∷ 0x01 ∷ 0x90 ∷ 0x32 ∷ 0x06 ∷ 0x40 ∷ []
+row₁ = 0x00 ∷ 0x00 ∷ 0x10 ∷ 0x50 ∷ 0x01 ∷ 0x90 ∷ 0x32 ∷ 0x06 ∷ 0x40 ∷ []
 
 abbrev pub row₂ : List ℕ
-row₂ = 0x00 ∷ 0x00 ∷ 0x11 ∷ 0x94 ∷ 0x01 ∷ 0x80 ∷ 0x48 ∷ 0x04 ∷ 0x80 ∷ []
+row₂ = 0x00 ∷ 0x00 ∷ 0x10 ∷ 0xFE ∷ 0x01 ∷ 0x80 ∷ 0x48 ∷ 0x04 ∷ 0x80 ∷ []
 
 abbrev pub row₅ : List ℕ
-row₅ = 0x00 ∷ 0x00 ∷ 0x14 ∷ 0x17 ∷ 0x01 ∷ 0x50 ∷ 0x3F ∷ 0x03 ∷ 0xF0 ∷ []
+row₅ = 0x00 ∷ 0x00 ∷ 0x13 ∷ 0x6C ∷ 0x01 ∷ 0x50 ∷ 0x3F ∷ 0x03 ∷ 0xF0 ∷ []
 
 abbrev pub row₆ : List ℕ
-row₆ = 0x00 ∷ 0x00 ∷ 0x15 ∷ 0x18 ∷ 0x01 ∷ 0x40 ∷ 0x3C ∷ 0x03 ∷ 0xC0 ∷ []
+row₆ = 0x00 ∷ 0x00 ∷ 0x14 ∷ 0x64 ∷ 0x01 ∷ 0x40 ∷ 0x3C ∷ 0x03 ∷ 0xC0 ∷ []
 
 abbrev pub tableA : List ℕ
 tableA =
     rows
     (row₁
     ∷ row₂
-    ∷ (0x00 ∷ 0x00 ∷ 0x12 ∷ 0x58 ∷ 0x01 ∷ 0x70 ∷ 0x45 ∷ 0x04 ∷ 0x50 ∷ [])
-    ∷ (0x00 ∷ 0x00 ∷ 0x13 ∷ 0x2E ∷ 0x01 ∷ 0x60 ∷ 0x42 ∷ 0x04 ∷ 0x20 ∷ [])
+    ∷ (0x00 ∷ 0x00 ∷ 0x11 ∷ 0xBC ∷ 0x01 ∷ 0x70 ∷ 0x45 ∷ 0x04 ∷ 0x50 ∷ [])
+    ∷ (0x00 ∷ 0x00 ∷ 0x12 ∷ 0x8A ∷ 0x01 ∷ 0x60 ∷ 0x42 ∷ 0x04 ∷ 0x20 ∷ [])
     ∷ row₅
     ∷ row₆
-    ∷ (0x00 ∷ 0x00 ∷ 0x16 ∷ 0x80 ∷ 0x01 ∷ 0x90 ∷ 0x32 ∷ 0x03 ∷ 0x20 ∷ [])
-    ∷ (0x00 ∷ 0x00 ∷ 0x17 ∷ 0x70 ∷ 0x01 ∷ 0x80 ∷ 0x30 ∷ 0x03 ∷ 0x00 ∷ [])
-    ∷ (0x00 ∷ 0x00 ∷ 0x18 ∷ 0x75 ∷ 0x01 ∷ 0x70 ∷ 0x2E ∷ 0x02 ∷ 0xE0 ∷ [])
+    ∷ (0x00 ∷ 0x00 ∷ 0x15 ∷ 0xA8 ∷ 0x01 ∷ 0x90 ∷ 0x32 ∷ 0x03 ∷ 0x20 ∷ [])
+    ∷ (0x00 ∷ 0x00 ∷ 0x16 ∷ 0x8F ∷ 0x01 ∷ 0x80 ∷ 0x30 ∷ 0x03 ∷ 0x00 ∷ [])
+    ∷ (0x00 ∷ 0x00 ∷ 0x17 ∷ 0x8B ∷ 0x01 ∷ 0x70 ∷ 0x2E ∷ 0x02 ∷ 0xE0 ∷ [])
     ∷ [])
 
 -- A's zones: (1,2,2) for 23 to 25, (1,2,4) for 22 to 25, (1,3,3) for 20 to 24.
@@ -111,18 +120,30 @@ cases =
     ∷ listingIn profileA (lent 47) (noCount (Room 3)) (lent 47)
     ∷ buildingIn profileA (lent 128) (noCount (Room 9)) (lent 128)
     -- P1
-    ∷ choosing profileA 4319 (noChoice (below 4320))
-    ∷ lookingUp profileA tableA 4319 (noCount (below 4320)) []
+    ∷ choosing profileA 4175 (noChoice (below 4176))
+    ∷ lookingUp profileA tableA 4175 (noCount (below 4176)) []
     -- P2
-    ∷ choosing profileA 4320 (plan 4320 3281956 (25 ∷ 50 ∷ 100 ∷ []))
-    ∷ lookingUp profileA tableA 4320 (number 1) (rows (row₁ ∷ []))
+    ∷ choosing profileA 4176 (plan 4176 3281956 (25 ∷ 50 ∷ 100 ∷ []))
+    ∷ lookingUp profileA tableA 4176 (number 1) (rows (row₁ ∷ []))
     -- P3
-    ∷ choosing profileA 5399 (plan 5143 1127645 (21 ∷ 63 ∷ 63 ∷ []))
-    ∷ lookingUp profileA tableA 5399 (number 5) (rows (row₅ ∷ []))
+    ∷ choosing profileA 5219 (plan 4972 1127645 (21 ∷ 63 ∷ 63 ∷ []))
+    ∷ lookingUp profileA tableA 5219 (number 5) (rows (row₅ ∷ []))
     -- P4
-    ∷ choosing profileA 5400 (plan 5400 864676 (20 ∷ 60 ∷ 60 ∷ []))
-    ∷ lookingUp profileA tableA 5400 (number 6) (rows (row₆ ∷ []))
-    -- the table that they were looked up in
+    ∷ choosing profileA 5220 (plan 5220 864676 (20 ∷ 60 ∷ 60 ∷ []))
+    ∷ lookingUp profileA tableA 5220 (number 6) (rows (row₆ ∷ []))
+    -- the 87 pages behind it, twice as many in twice the time, and 20 in 59 seconds, before the second and the third job have run
+    ∷ counting profileA (eight (20 ∷ 60 ∷ 60 ∷ [])) 60 87
+    ∷ counting profileA (eight (20 ∷ 60 ∷ 60 ∷ [])) 120 174
+    ∷ counting profileA (eight (20 ∷ 60 ∷ 60 ∷ [])) 59 20
+    ∷ scoring profileA (eight (20 ∷ 60 ∷ 60 ∷ [])) (scored 5220 864676)
+    -- metadata that the job before hides, then metadata that exceeds what was: 6, 8, 6 and 12 pages in 40 seconds
+    ∷ counting hidden (eight (10 ∷ 20 ∷ 40 ∷ [])) 40 32
+    ∷ scoring hidden (eight (10 ∷ 20 ∷ 40 ∷ [])) (scored 2880 810000)
+    -- metadata that is all that a job writes, and hidden: its longer period needs no less, so there is one row
+    ∷ building allHidden (number 1) (rows ((0x00 ∷ 0x00 ∷ 0x08 ∷ 0x70 ∷ 0x00 ∷ 0xA0 ∷ 0x0A ∷ []) ∷ []))
+    ∷ choosing allHidden 2160 (plan 2160 0 (10 ∷ 10 ∷ []))
+    ∷ scoring allHidden (eight (10 ∷ 20 ∷ [])) (scored 2160 291600)
+    -- A's table, in which P1 to P4 were looked up
     ∷ building profileA (number 9) tableA
     -- P5
     ∷ listing profileA (number 3) zonesA
@@ -140,6 +161,8 @@ cases =
     -- P9
     ∷ scoring (profile (interval 7 7 ∷ interval 7 7 ∷ [])) (eight (7 ∷ 7 ∷ [])) (scored 1029 0)
     ∷ choosing (profile (interval 7 7 ∷ interval 7 7 ∷ [])) 1028 (noChoice (below 1029))
+    -- with metadata in the place of data they commit once
+    ∷ scoring (profile (job 7 7 0 1 1 ∷ job 7 7 0 1 1 ∷ [])) (eight (7 ∷ 7 ∷ [])) (scored 515 0)
     -- P10: the one row, and its loss
     ∷ building (profile (interval 1801 3600 ∷ [])) (number 1) (rows ((0x00 ∷ 0x00 ∷ 0x00 ∷ 0x01 ∷ 0xE1 ∷ 0x00 ∷ []) ∷ []))
     ∷ choosing (profile (interval 1801 3600 ∷ [])) 2 (plan 1 0 (3600 ∷ []))
@@ -157,13 +180,13 @@ cases =
     ∷ listing (profile (interval 6 10 ∷ interval 11 22 ∷ interval 19 40 ∷ [])) (number 5) fiveZones
     ∷ permitting (profile (interval 6 10 ∷ interval 11 22 ∷ interval 19 40 ∷ [])) Sound nineLists
     -- a table that is not complete
-    ∷ lookingUp profileA (rows (row₁ ∷ row₂ ∷ [])) 4499 (number 1) (rows (row₁ ∷ []))
-    ∷ lookingUp profileA (rows (row₁ ∷ row₂ ∷ [])) 4500 (number 2) (rows (row₂ ∷ []))
+    ∷ lookingUp profileA (rows (row₁ ∷ row₂ ∷ [])) 4349 (number 1) (rows (row₁ ∷ []))
+    ∷ lookingUp profileA (rows (row₁ ∷ row₂ ∷ [])) 4350 (number 2) (rows (row₂ ∷ []))
     ∷ lookingUp profileA (rows (row₁ ∷ row₂ ∷ [])) 0xffff_ffff (number 2) (rows (row₂ ∷ []))
     -- tables that are not well formed: no bytes, a row cut short, falling starts, a row twice, a row of zeros
-    ∷ lookingUp profileA [] 4320 (noCount (Row 0)) []
-    ∷ lookingUp profileA (take 31 (rows (row₁ ∷ row₂ ∷ []))) 4320 (noCount (Row 0)) []
-    ∷ lookingUp profileA (rows (row₂ ∷ row₁ ∷ [])) 4500 (noCount (Row 2)) []
-    ∷ lookingUp profileA (rows (row₁ ∷ row₁ ∷ [])) 4320 (noCount (Row 2)) []
-    ∷ lookingUp profileA (rows ([] ∷ [])) 4320 (noCount (Row 1)) []
+    ∷ lookingUp profileA [] 4176 (noCount (Row 0)) []
+    ∷ lookingUp profileA (take 31 (rows (row₁ ∷ row₂ ∷ []))) 4176 (noCount (Row 0)) []
+    ∷ lookingUp profileA (rows (row₂ ∷ row₁ ∷ [])) 4350 (noCount (Row 2)) []
+    ∷ lookingUp profileA (rows (row₁ ∷ row₁ ∷ [])) 4176 (noCount (Row 2)) []
+    ∷ lookingUp profileA (rows ([] ∷ [])) 4176 (noCount (Row 1)) []
     ∷ []

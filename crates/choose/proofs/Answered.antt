@@ -40,10 +40,10 @@ permitted-to before [] (suc n) (x ∷ xs) v h k less = absurd h
 permitted-to before (j ∷ js) (suc n) (x ∷ xs) v h zero less = le-trans (h .0 .below) (v .0 .hi-to)
 permitted-to before (j ∷ js) (suc n) (x ∷ xs) v h (suc k) less = permitted-to (seconds x) js n xs (v .1) (h .1) k (omega arith)
 
-module _ {spans pages rates stiffnesses : List ℕ} {n : ℕ} {js : List Job} (held : Held spans pages rates stiffnesses 0 n js) where
+module _ {spans pages rates stiffnesses : List ℕ} {n : ℕ} {js : List Job} (held : Held spans pages rates stiffnesses 0 n 0 js) where
   module _ {b : PagesPerHour} {ps ps′ best best′ : List ℕ} (w : Walks spans pages rates stiffnesses 0 n b (seconds 1) 0 0 ps ps′ best best′) (begun : getD best 9 0 ≡ noPlan) where
     best-or-none : BestOrNone js b (foundIn n best′)
-    best-or-none = subst (BestOrNone js b) (sym (w .walked .is js held ∙ ap (walk (pick (b .0)) js start) (no-plan-found n best begun))) (walk-best js b (held-valid js held))
+    best-or-none = subst (BestOrNone js b) (sym (w .walked .is 0 js held ∙ ap (walk (pick (b .0)) js start) (no-plan-found n best begun))) (walk-best js b (held-valid js held))
 
     best-found : (getD best′ 9 0 ≡ noPlan → ⊥) → BestFound js b (getD best′ 8 0) (getD best′ 9 0) (periodsIn n best′)
     best-found some = subst (BestOrNone js b) (plan-found n best′ some) best-or-none
@@ -68,7 +68,7 @@ module _ {spans pages rates stiffnesses : List ℕ} {n : ℕ} {js : List Job} (h
 
       least-or-none : LeastOrNone js (leastIn r)
       unfolding leastIn
-      least-or-none = subst (LeastOrNone js) (sym (l stiffnesses js 0 [] held)) (walk-least down-lists js (held-valid js held))
+      least-or-none = subst (LeastOrNone js) (sym (l stiffnesses 0 js 0 [] held)) (walk-least down-lists js (held-valid js held))
 
       pub none-right : r .0 ≡ noNeed → Outcome js b (noChoice NoPeriods)
       unfolding settle

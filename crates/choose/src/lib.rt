@@ -45,7 +45,7 @@ fn choose_sound(p: Profile, budget: PagesPerHour) -> Choice
     let n = p.n as usize;
     let spans = walk_arrays::spans_of(p);
     let pages = walk_arrays::pages_of(p);
-    let rates = walk_arrays::rates_of(p);
+    let rates = walk_arrays::rates_of(p, &pages);
     let stiffnesses = walk_arrays::stiffnesses_of(p);
     let mut periods = [0u32; 8];
     let mut best = [0u64; 10];

@@ -22,7 +22,7 @@ use Rattle.walk.specs.Arrays.{Held}
 use Rattle.walk.specs.Steps.{triesHeld, Unreached, ReadyForCut}
 use Rattle.choose_walk.specs.Steps.{ReadyForNeed, noNeed, leastIn, Lessens, LessensNothing}
 use Rattle.model.proofs.Rounding.{round-up-above, multiple-is, split-product}
-use Rattle.walk.proofs.Floors.{multiple-above}
+use Rattle.model.proofs.Rounding.{multiple-above}
 use Rattle.walk.proofs.Falling.{down-lists}
 use Rattle.walk.specs.Laws.{Keeps}
 use Rattle.walk.proofs.Walk.{walk-cut}
@@ -58,30 +58,30 @@ keeps-least {m} h q l ts k≤ l≤ = let e : min q m ≡ m = omega arith in ap l
 module _ {spans rates : List ℕ} {i n : ℕ} {t : Seconds} {written : ℕ} (r : ReadyForCut spans rates i n t written) (had : PagesPerHour) where
   -- the cut by the need floor
   pub floor-not-less : had .0 ≤ needAt written t + getD rates (8 + i) 0 → LessensNothing spans rates i n t written had
-  floor-not-less over pages stiffnesses js lost ts h =
+  floor-not-less over pages stiffnesses g js lost ts h =
       let to = need-floor-to (r .ready) in
-      let is = need-floor-is js t written h in
+      let is = need-floor-is g js t written h in
       let some = some-least had (λ e. omega arith) in
-      subst (λ a. walkDown lessNeed js (node t written lost ts) a ≡ a) (sym some)
-      (walk-cut down-lists lessNeed (least (had .0)) js (node t written lost ts) (held-valid js h) (r .ready .from) (needFloor written t js) 0 (le-refl _) zero-le (keeps-least (omega arith)))
+      subst (λ a. walkDown lessNeed js (node t g written lost ts) a ≡ a) (sym some)
+      (walk-cut down-lists lessNeed (least (had .0)) js (node t g written lost ts) (held-valid js h) (r .ready .from) (needFloor g written t js) 0 (le-refl _) zero-le (keeps-least (omega arith)))
 
   -- the cut by reach
   pub unreached-not-less : Unreached spans i n t → LessensNothing spans rates i n t written had
-  unreached-not-less u pages stiffnesses js lost ts h = unreached down-lists lessNeed (leastIn had) js (node t written lost ts) (r .ready .from) h u
+  unreached-not-less u pages stiffnesses g js lost ts h = unreached down-lists lessNeed (leastIn had) js (node t g written lost ts) (r .ready .from) h u
 
 -- Before each turn: t is the period whose turn it is, and the walk from it down, begun with what is had, ends as the whole walk does.
 pub record Down (spans pages rates : List ℕ) (i n : ℕ) (step : Seconds) (written : ℕ) (had now : PagesPerHour) (t : Seconds) : Type 0 where
   pub multiple : t .0 % step .0 ≡ 0
   pub below : t .0 ≤ getD spans (8 + i) 0
-  pub is : (stiffnesses : List ℕ) (j : Job) (js : List Job) (lost : ℕ) (ts : List Seconds) → Held spans pages rates stiffnesses i n (j ∷ js) →
-      walkDownFrom lessNeed j js (node step written lost ts) t (leastIn now) ≡ walkDown lessNeed (j ∷ js) (node step written lost ts) (leastIn had)
+  pub is : (stiffnesses : List ℕ) (g : ℕ) (j : Job) (js : List Job) (lost : ℕ) (ts : List Seconds) → Held spans pages rates stiffnesses i n g (j ∷ js) →
+      walkDownFrom lessNeed j js (node step g written lost ts) t (leastIn now) ≡ walkDown lessNeed (j ∷ js) (node step g written lost ts) (leastIn had)
 
 module _ {spans pages rates : List ℕ} {i n : ℕ} {step : Seconds} {written : ℕ} (r : ReadyForNeed spans pages rates i n step written) where
   -- the last job has its period: one plan, its need
   pub down-leaf : i ≡ n → (had q r : PagesPerHour) → q ≡ pagesPerHour (needAt written step) → r .0 ≡ min (q .0) (had .0) → Lessens spans pages rates i n step written had r
   unfolding needAt walkBy
-  down-leaf e had q m is smaller stiffnesses js lost ts h =
-      let empty : js ≡ [] = held-none js (subst (λ (x : ℕ). Held spans pages rates stiffnesses x n js) e h) in
+  down-leaf e had q m is smaller stiffnesses g js lost ts h =
+      let empty : js ≡ [] = held-none js (subst (λ (x : ℕ). Held spans pages rates stiffnesses x n g js) e h) in
       let small = need-to (ready-need (r .ready)) in
       let at : q .0 ≡ needAt written step = ap (λ (x : PagesPerHour). x .0) is in
       rw empty (less-need (needAt written step) lost ts had m small (rw (← at) smaller))
@@ -91,18 +91,18 @@ module _ {spans pages rates : List ℕ} {i n : ℕ} {step : Seconds} {written : 
     pub down-starts : (had : PagesPerHour) → Down spans pages rates i n step written had had (tries .last)
     down-starts had = rw told (record { multiple = mul-mod-left _ _; below = div-mul-le-self _ _; is = opens })
       where
-        opens : (stiffnesses : List ℕ) (j : Job) (js : List Job) (lost : ℕ) (ts : List Seconds) → Held spans pages rates stiffnesses i n (j ∷ js) →
-            walkDownFrom lessNeed j js (node step written lost ts) (triesHeld spans i step .last) (leastIn had) ≡ walkDown lessNeed (j ∷ js) (node step written lost ts) (leastIn had)
-        opens stiffnesses j js lost ts h = rw (h .jobs .0 .longest) (sym (down-opens lessNeed j js (node step written lost ts) (leastIn had)))
+        opens : (stiffnesses : List ℕ) (g : ℕ) (j : Job) (js : List Job) (lost : ℕ) (ts : List Seconds) → Held spans pages rates stiffnesses i n g (j ∷ js) →
+            walkDownFrom lessNeed j js (node step g written lost ts) (triesHeld spans i step .last) (leastIn had) ≡ walkDown lessNeed (j ∷ js) (node step g written lost ts) (leastIn had)
+        opens stiffnesses g j js lost ts h = rw (h .jobs .0 .longest) (sym (down-opens lessNeed j js (node step g written lost ts) (leastIn had)))
 
     -- and ends below the first
     pub down-done : i < n → {had now : PagesPerHour} {t : Seconds} → Down spans pages rates i n step written had now t → t .0 < tries .first .0 → Lessens spans pages rates i n step written had now
-    down-done less {had} {now} {t} d past stiffnesses js lost ts h =
+    down-done less {had} {now} {t} d past stiffnesses g js lost ts h =
         let o = held-open js less h in
-        let p = node step written lost ts in
-        let k : Held spans pages rates stiffnesses i n (o .job ∷ o .rest) = subst (Held spans pages rates stiffnesses i n) (o .is) h in
+        let p = node step g written lost ts in
+        let k : Held spans pages rates stiffnesses i n g (o .job ∷ o .rest) = subst (Held spans pages rates stiffnesses i n g) (o .is) h in
         rw (o .is)
-        (sym (down-ends lessNeed (o .job) (o .rest) p t (leastIn now) (r .ready .from) (rw (told, o .holds .shortest) at past)) ∙ d .is stiffnesses (o .job) (o .rest) lost ts k)
+        (sym (down-ends lessNeed (o .job) (o .rest) p t (leastIn now) (r .ready .from) (rw (told, o .holds .shortest) at past)) ∙ d .is stiffnesses g (o .job) (o .rest) lost ts k)
 
 -- A turn of the loop: what stands before it, and a period that may be tried.
 pub record DownTurn (spans pages rates : List ℕ) (i n : ℕ) (step : Seconds) (written : ℕ) (had now : PagesPerHour) (t : Seconds) : Type 0 where
@@ -149,16 +149,16 @@ module _ {spans pages rates : List ℕ} {i n : ℕ} {step : Seconds} {written : 
           let e : t .0 - step .0 ≡ (t .0 / step .0 - 1) * step .0 = omega arith in
           rw e (mul-mod-left _ _)
 
-      turned : (stiffnesses : List ℕ) (j : Job) (js : List Job) (lost : ℕ) (ts : List Seconds) → Held spans pages rates stiffnesses i n (j ∷ js) →
-          walkDownFrom lessNeed j js (node step written lost ts) (seconds (t .0 - step .0)) (leastIn m) ≡ walkDown lessNeed (j ∷ js) (node step written lost ts) (leastIn had)
-      turned stiffnesses j js lost ts h =
-          let p = node step written lost ts in
-          let after = lessens stiffnesses js (lost + jobLoss j t) (ts ++ (t ∷ [])) (held-next j js h) in
+      turned : (stiffnesses : List ℕ) (g : ℕ) (j : Job) (js : List Job) (lost : ℕ) (ts : List Seconds) → Held spans pages rates stiffnesses i n g (j ∷ js) →
+          walkDownFrom lessNeed j js (node step g written lost ts) (seconds (t .0 - step .0)) (leastIn m) ≡ walkDown lessNeed (j ∷ js) (node step g written lost ts) (leastIn had)
+      turned stiffnesses g j js lost ts h =
+          let p = node step g written lost ts in
+          let after = lessens stiffnesses _ js (lost + jobLoss j t) (ts ++ (t ∷ [])) (held-next j js h) in
           let own : walkDown lessNeed js (next j p t) (leastIn now) ≡ leastIn m = sym (rw (h .jobs .0 .for-need) at after) in
           ap (walkDownFrom lessNeed j js p (seconds (t .0 - step .0))) (sym own)
           ∙ sym (down-takes lessNeed j js p t (leastIn now) (d .ready .ready .from) down-room (rw (h .jobs .0 .shortest) at (d .from)))
-          ∙ d .down .is stiffnesses j js lost ts h
+          ∙ d .down .is stiffnesses g j js lost ts h
 
   -- a walk that would leave what is had is not made
   pub down-skip : LessensNothing spans rates (i + 1) n t (carried written step t (getD pages i 0)) now → Down spans pages rates i n step written had now (seconds (t .0 - step .0))
-  down-skip nothing = down-turn now (λ stiffnesses js lost ts h. sym (nothing pages stiffnesses js lost ts h))
+  down-skip nothing = down-turn now (λ stiffnesses g js lost ts h. sym (nothing pages stiffnesses g js lost ts h))

@@ -30,12 +30,14 @@ pub record ReadyForNeed (spans pages rates : List ℕ) (i n : ℕ) (t : Seconds)
 -- r is what the walk for the least need, from such a node on, makes of what was had.
 abbrev pub Lessens : List ℕ → List ℕ → List ℕ → ℕ → ℕ → Seconds → ℕ → PagesPerHour → PagesPerHour → Type 0
 Lessens spans pages rates i n t written had r =
-    (stiffnesses : List ℕ) (js : List Job) (lost : ℕ) (ts : List Seconds) → Held spans pages rates stiffnesses i n js → leastIn r ≡ walkDown lessNeed js (node t written lost ts) (leastIn had)
+    (stiffnesses : List ℕ) (greatest : ℕ) (js : List Job) (lost : ℕ) (ts : List Seconds) → Held spans pages rates stiffnesses i n greatest js →
+    leastIn r ≡ walkDown lessNeed js (node t greatest written lost ts) (leastIn had)
 
 -- That walk would leave what was had.
 abbrev pub LessensNothing : List ℕ → List ℕ → ℕ → ℕ → Seconds → ℕ → PagesPerHour → Type 0
 LessensNothing spans rates i n t written had =
-    (pages stiffnesses : List ℕ) (js : List Job) (lost : ℕ) (ts : List Seconds) → Held spans pages rates stiffnesses i n js → walkDown lessNeed js (node t written lost ts) (leastIn had) ≡ leastIn had
+    (pages stiffnesses : List ℕ) (greatest : ℕ) (js : List Job) (lost : ℕ) (ts : List Seconds) → Held spans pages rates stiffnesses i n greatest js →
+    walkDown lessNeed js (node t greatest written lost ts) (leastIn had) ≡ leastIn had
 
 -- What the walk for the best plan leaves: the periods before place i, and in best what it makes of what was found.
 pub record Walks (spans pages rates stiffnesses : List ℕ) (i n : ℕ) (b : PagesPerHour) (t : Seconds) (written lost : ℕ) (ps ps′ best best′ : List ℕ) : Type 0 where

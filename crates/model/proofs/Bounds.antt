@@ -8,7 +8,7 @@ use mathlib.Core.List.{List, [], _∷_}
 use lib.ListN.{getD}
 use Rattle.model.specs.declared.Seconds.{Seconds}
 use Rattle.model.specs.declared.Job.{Job}
-use Rattle.model.specs.Model.{seconds, load, cost, PermittedAfter, roundUp, rate, jobLoss}
+use Rattle.model.specs.Model.{seconds, cost, PermittedAfter, roundUp, rate, jobLoss}
 use Rattle.model.specs.Most.{mostPages, mostRate, mostLoss}
 use Rattle.model.specs.Valid.{ValidJob, ValidJobs}
 use Rattle.model.proofs.Rounding.{round-up-le}
@@ -20,10 +20,6 @@ period-to before [] (t ∷ ts) v h i = absurd h
 period-to before (j ∷ js) [] v h i = omega arith
 period-to before (j ∷ js) (t ∷ ts) v h zero = le-trans (h .0 .below) (v .0 .hi-to)
 period-to before (j ∷ js) (t ∷ ts) v h (suc i) = period-to t js ts (v .1) (h .1) i
-
-pub load-bound : (j : Job) → ValidJob j → load j ≤ mostPages
-unfolding load
-load-bound j v = omega arith
 
 pub cost-bound : (j : Job) → ValidJob j → cost j ≤ mostPages
 unfolding cost

@@ -1,10 +1,11 @@
--- What a plan is and when it is right, in the order of document 01. Every public contract of the planner is stated with these
--- definitions; a comment that renders a rule ends in the rule's place there. Laws about them are in proofs/, which no contract
--- cites publicly. Need, loss and permitted periods are meant for the jobs of a valid profile. Assumes nothing.
+-- What a plan is and when it is right, in the order of document 01, as the change requests of document 02 have left it. Every public
+-- contract of the planner is stated with these definitions; a comment that renders a rule ends in the rule's place there. Laws about
+-- them are in proofs/, which no contract cites publicly. Need, loss and permitted periods are meant for the jobs of a valid profile.
+-- Assumes nothing.
 use mathlib.Core.Path.{_≡_}
 use mathlib.Core.List.{List, [], _∷_, _++_, List·Memᴰ}
 use mathlib.Core.Bool.{Bool, cond, _||_}
-use Prim.Native.Nat.{ℕ, zero, suc, _+_, _*_, _-_, _/_, _%_, _^_, _≤_}
+use Prim.Native.Nat.{ℕ, zero, suc, _+_, _*_, _-_, _/_, _%_, _^_, _≤_, max}
 use lib.ListN.{length, getD, drop, replicate}
 use lib.Dec.{eqb, ltb}
 use Rattle.model.specs.declared.Seconds.{Seconds}
@@ -50,10 +51,6 @@ jobsOf p = entries noJob (p .jobs) 0 (p .n)
 abbrev pub periodsOf : Profile → List Seconds → List Seconds
 periodsOf p ts = entries (seconds 0) ts 0 (p .n)
 
--- What need takes from a run of a job: its pages, c = d + g (Quantities: need).
-unfoldable pub load : Job → ℕ
-load j = j .«data» + j .metadata
-
 -- What loss takes from a run of a job: its pages, c = d + g (Quantities: loss).
 unfoldable pub cost : Job → ℕ
 cost j = j .«data» + j .metadata
@@ -80,19 +77,44 @@ unfoldable pub lastOf : Seconds → List Seconds → Seconds
 lastOf before [] = before
 lastOf before (t ∷ ts) = lastOf t ts
 
--- The pages that jobs at these periods write in `cycle` seconds, a multiple of every period (Quantities: need).
+-- The jobs that run at a second: all start together at second 0, so these are the jobs whose period divides it (02, Ticket 3).
+unfoldable pub running : List Job → List Seconds → ℕ → List Job
+running [] ts moment = []
+running (j ∷ js) [] moment = []
+running (j ∷ js) (t ∷ ts) moment = cond (eqb (moment % t .0) 0) (j ∷ running js ts moment) (running js ts moment)
+
+-- The data that these jobs write when each runs once ..
+unfoldable pub dataOf : List Job → ℕ
+dataOf [] = 0
+dataOf (j ∷ js) = j .«data» + dataOf js
+
+-- .. and the metadata that the drive commits if they fall on one second: once, and as much as the largest of theirs (02, Ticket 3).
+unfoldable pub commitOf : List Job → ℕ
+commitOf [] = 0
+commitOf (j ∷ js) = max (j .metadata) (commitOf js)
+
+-- What the drive writes at a second: the data of every job that runs, and one commit (02, Ticket 3).
+unfoldable pub pagesAt : List Job → List Seconds → ℕ → ℕ
+pagesAt js ts moment = dataOf (running js ts moment) + commitOf (running js ts moment)
+
+-- The sum of f over the first k multiples of `every`; 0 is not one of them.
+unfoldable pub sumOver : (ℕ → ℕ) → ℕ → ℕ → ℕ
+sumOver f every zero = 0
+sumOver f every (suc k) = sumOver f every k + f (suc k * every)
+
+-- The pages that jobs at these periods write in the seconds 1 to `time`: the sum over the moments, which are the multiples of T1 among
+-- these. Every permitted period is a multiple of T1, so between two moments no job runs (02, Ticket 3).
 unfoldable pub pagesIn : Seconds → List Job → List Seconds → ℕ
-pagesIn cycle [] ts = 0
-pagesIn cycle (j ∷ js) [] = 0
-pagesIn cycle (j ∷ js) (t ∷ ts) = load j * (cycle .0 / t .0) + pagesIn cycle js ts
+pagesIn time js [] = 0
+pagesIn time js (t ∷ ts) = sumOver (pagesAt js (t ∷ ts)) (t .0) (time .0 / t .0)
 
 -- A fraction rounded up to a whole number; over 0 it is 0, but no permitted period of a valid profile is 0.
 abbrev pub roundUp : ℕ → ℕ → ℕ
 roundUp a b = (a + (b - 1)) / b
 
--- The hourly pages of a plan, a fraction over Tn, rounded up once (Quantities: need).
+-- The hourly pages of a plan: 3,600 times those of Tn seconds, over Tn, rounded up once (Quantities: need; 02, Ticket 3).
 unfoldable pub need : List Job → List Seconds → PagesPerHour
-need js ts = pagesPerHour (roundUp (3600 * pagesIn (lastOf (seconds 1) ts) js ts) (lastOf (seconds 1) ts .0))
+need js ts = let cycle = lastOf (seconds 1) ts in pagesPerHour (roundUp (3600 * pagesIn cycle js ts) (cycle .0))
 
 -- Periods fit a budget when their need is at most that (Quantities).
 abbrev pub FitsBudget : List Job → List Seconds → PagesPerHour → Type 0

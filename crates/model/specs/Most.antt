@@ -10,7 +10,7 @@ mostPages = 65534
 abbrev pub mostRate : ℕ
 mostRate = 3600 * mostPages
 
--- What eight jobs need.
+-- What eight jobs need at most, each with metadata of its own at every second.
 abbrev pub mostNeed : ℕ
 mostNeed = 8 * mostRate
 

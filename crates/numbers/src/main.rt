@@ -1,5 +1,5 @@
-// Runs the numbers of document 01, and a bad input for each refusal, and prints what comes out. The file stdout beside src/
-// is what must come out.
+// Runs the numbers of document 01, with the need of ticket 3, and a bad input for each refusal, and prints what comes out. The
+// file stdout beside src/ is what must come out.
 use libc::STDOUT_FILENO;
 use planner::Counted;
 use planner::Job;
@@ -37,7 +37,7 @@ fn both_ways() {
     show_written(p, &mut shorter);
 }
 
-// A's first row, P8, P9 and the case with no pages.
+// A's first row and the row 20, 60, 60, P8, P9 and the case with no pages.
 fn needs() {
     say(b"needs\n");
     let a = profile_a();
@@ -94,10 +94,10 @@ fn bad_periods() {
 fn choices() {
     say(b"choices\n");
     let a = profile_a();
-    show_choice(a, 4319);
-    show_choice(a, 4320);
-    show_choice(a, 5399);
-    show_choice(a, 5400);
+    show_choice(a, 4175);
+    show_choice(a, 4176);
+    show_choice(a, 5219);
+    show_choice(a, 5220);
     show_choice(spans(1, 1, 2, 6, 35, 35), 4294967295);
     show_choice(spans(1, 1, 2, 4, 35, 35), 4294967295);
     show_choice(sevens(1), 514);
@@ -134,10 +134,10 @@ fn lookups() {
     let a = profile_a();
     let mut table = [0u8; 144];
     planner::build_table(a, &mut table);
-    show_lookup(a, &table, 4319);
-    show_lookup(a, &table, 4320);
-    show_lookup(a, &table, 5399);
-    show_lookup(a, &table, 5400);
+    show_lookup(a, &table, 4175);
+    show_lookup(a, &table, 4176);
+    show_lookup(a, &table, 5219);
+    show_lookup(a, &table, 5220);
 }
 
 fn profile_a() -> Profile {

@@ -3,22 +3,23 @@
 use mathlib.Core.Path.{_≡_, sym, _∙_, ap, ap₂, subst}
 use mathlib.Core.Logic.{_↔_}
 use mathlib.Core.List.{List, []}
-use Prim.Native.Nat.{ℕ, _+_, _*_, _-_, _^_, _≤_, _<_}
+use Prim.Native.Nat.{ℕ, _+_, _*_, _-_, _^_, _≤_, _<_, max}
 use native.Mathlib.Omega.{arith}
+use native.Mathlib.Numerals.{add-one}
 use native.Mathlib.Nat.{sub-zero, zero-add, add-zero, add-assoc, le-trans, mul-le-mul-right}
 use lib.ListN.{getD}
 use Rattle.model.specs.declared.Seconds.{Seconds}
 use Rattle.model.specs.declared.Job.{Job}
 use Rattle.model.specs.declared.Profile.{Profile}
-use Rattle.model.specs.Model.{seconds, pagesPerHour, noJob, entries, jobsOf, periodsOf, load, Allowed, PermittedAfter, Permitted, lastOf, roundUp, need, jobLoss, loss}
+use Rattle.model.specs.Model.{seconds, pagesPerHour, noJob, entries, jobsOf, periodsOf, Allowed, PermittedAfter, Permitted, lastOf, roundUp, need, jobLoss, loss}
 use Rattle.model.specs.Most.{mostPages}
 use Rattle.model.specs.Valid.{Valid}
 use Rattle.model.proofs.Bounds.{job-loss-bound, eight-losses}
 use Rattle.model.proofs.Entries.{entries-step, entries-end}
 use Rattle.model.proofs.Validity.{job-valid-at}
-use Rattle.step.specs.Step.{carried, pagesAfter, needAfter, needAt, NeedFits, Bounded}
+use Rattle.step.specs.Step.{greatestBefore, loadAt, carried, pagesAfter, needAfter, needAt, NeedFits, Bounded}
 use Rattle.step.proofs.Bounds.{start-bounded, next-bounded, bounded-fits}
-use Rattle.step.proofs.Pages.{need-is}
+use Rattle.step.proofs.Shared.{need-is}
 
 -- the jobs and the periods from place i on
 abbrev pub jobsFrom : Profile → ℕ → List Job
@@ -26,6 +27,11 @@ jobsFrom p i = entries noJob (p .jobs) i (p .n - i)
 
 abbrev pub periodsFrom : Profile → List Seconds → ℕ → List Seconds
 periodsFrom p ts i = entries (seconds 0) ts i (p .n - i)
+
+-- the greatest metadata with one job more
+pub greatest-next : (p : Profile) (k : ℕ) → greatestBefore p (k + 1) ≡ max (greatestBefore p k) (getD (p .jobs) k noJob .metadata)
+unfolding greatestBefore
+greatest-next p k = ap (greatestBefore p) (add-one k)
 
 -- Before place i of eight: `before` is the last period so far, the jobs so far write `written` pages in that time and lose `lost`,
 -- and the periods are permitted exactly where those still to come are, after it.
@@ -35,7 +41,7 @@ pub record Along (p : Profile) (ts : List Seconds) (i : ℕ) (before : Seconds) 
   pub to : before .0 ≤ 3600
   pub bounded : Bounded i before written lost
   pub permitted : Permitted (jobsOf p) (periodsOf p ts) ↔ PermittedAfter before (jobsFrom p i) (periodsFrom p ts i)
-  pub pages : pagesAfter 0 (seconds 1) (jobsOf p) (periodsOf p ts) ≡ pagesAfter written before (jobsFrom p i) (periodsFrom p ts i)
+  pub pages : pagesAfter 0 0 (seconds 1) (jobsOf p) (periodsOf p ts) ≡ pagesAfter (greatestBefore p i) written before (jobsFrom p i) (periodsFrom p ts i)
   pub last : lastOf (seconds 1) (periodsOf p ts) ≡ lastOf before (periodsFrom p ts i)
   pub losses : loss (jobsOf p) (periodsOf p ts) ≡ lost + loss (jobsFrom p i) (periodsFrom p ts i)
 
@@ -44,6 +50,7 @@ same : {A B : Type 0} → A ≡ B → A ↔ B
 same e = (subst (λ (T : Type 0). T) e, subst (λ (T : Type 0). T) (sym e))
 
 pub along-starts : (p : Profile) (ts : List Seconds) → Along p ts 0 (seconds 1) 0 0
+unfolding greatestBefore
 along-starts p ts =
     let whole = sym (sub-zero (p .n)) in
     record {
@@ -52,7 +59,7 @@ along-starts p ts =
       to = omega arith;
       bounded = start-bounded;
       permitted = same (ap (λ (m : ℕ). Permitted (entries noJob (p .jobs) 0 m) (entries (seconds 0) ts 0 m)) whole);
-      pages = ap (λ (m : ℕ). pagesAfter 0 (seconds 1) (entries noJob (p .jobs) 0 m) (entries (seconds 0) ts 0 m)) whole;
+      pages = ap (λ (m : ℕ). pagesAfter 0 0 (seconds 1) (entries noJob (p .jobs) 0 m) (entries (seconds 0) ts 0 m)) whole;
       last = ap (λ (m : ℕ). lastOf (seconds 1) (entries (seconds 0) ts 0 m)) whole;
       losses = ap (λ (m : ℕ). loss (entries noJob (p .jobs) 0 m) (entries (seconds 0) ts 0 m)) whole ∙ sym (zero-add _);
     }
@@ -82,7 +89,7 @@ module _ {p : Profile} {ts : List Seconds} {i : ℕ} {before : Seconds} {written
     pub along-next :
         let j = getD (p .jobs) i noJob in
         let t = getD ts i (seconds 0) in
-        Allowed j before t → Along p ts (i + 1) t (carried written before t (load j)) (lost + jobLoss j t)
+        Allowed j before t → Along p ts (i + 1) t (carried written before t (loadAt p i)) (lost + jobLoss j t)
     unfolding pagesAfter lastOf loss
     along-next allowed =
         let j = getD (p .jobs) i noJob in
@@ -90,13 +97,14 @@ module _ {p : Profile} {ts : List Seconds} {i : ℕ} {before : Seconds} {written
         let valid = job-valid-at p i v less in
         let js = entries-step noJob (p .jobs) i (p .n) less in
         let us = entries-step (seconds 0) ts i (p .n) less in
+        let onward : ℕ → ℕ = λ g. pagesAfter g (carried written before t (loadAt p i)) t (jobsFrom p (i + 1)) (periodsFrom p ts (i + 1)) in
         record {
           upto = omega (arith, v .n-to);
           from = omega (arith, allowed .above, valid .lo-from);
           to = omega (arith, allowed .below, valid .hi-to);
-          bounded = next-bounded (a .bounded) j t valid allowed;
+          bounded = next-bounded (a .bounded) (greatestBefore p i) j t valid allowed;
           permitted = (λ h. same one-more .0 (a .permitted .0 h) .1, λ h. a .permitted .1 (same one-more .1 (allowed, h)));
-          pages = a .pages ∙ ap₂ (pagesAfter written before) js us;
+          pages = a .pages ∙ ap₂ (pagesAfter (greatestBefore p i) written before) js us ∙ ap onward (sym (greatest-next p i));
           last = a .last ∙ ap (lastOf before) us;
           losses = a .losses ∙ ap₂ (λ (ks : List Job) (ws : List Seconds). lost + loss ks ws) js us ∙ sym (add-assoc lost (jobLoss j t) _);
         }
@@ -108,6 +116,11 @@ module _ {p : Profile} {ts : List Seconds} {i : ℕ} {before : Seconds} {written
 
     no-period : periodsFrom p ts i ≡ []
     no-period = entries-end (seconds 0) ts i (p .n) past
+
+    -- without jobs still to come the pages are those written, whatever the greatest metadata
+    at-end : (greatest : ℕ) {js : List Job} {us : List Seconds} → js ≡ [] → us ≡ [] → pagesAfter greatest written before js us ≡ written
+    unfolding pagesAfter
+    at-end greatest = ap₂ (pagesAfter greatest written before)
 
     -- nothing is added there
     pub along-beyond : i < 8 → Along p ts (i + 1) before written lost
@@ -122,7 +135,7 @@ module _ {p : Profile} {ts : List Seconds} {i : ℕ} {before : Seconds} {written
           to = a .to;
           bounded = record { pages-to = le-trans (a .bounded .pages-to) (mul-le-mul-right (before .0) few); lost-to = omega (arith, a .bounded .lost-to) };
           permitted = (λ h. left .0 (a .permitted .0 h), λ h. a .permitted .1 (left .1 h));
-          pages = a .pages ∙ ap₂ (pagesAfter written before) js us;
+          pages = a .pages ∙ at-end (greatestBefore p i) no-job no-period ∙ sym (at-end (greatestBefore p (i + 1)) (sym js ∙ no-job) (sym us ∙ no-period));
           last = a .last ∙ ap (lastOf before) us;
           losses = a .losses ∙ ap₂ (λ (ks : List Job) (ws : List Seconds). lost + loss ks ws) js us;
         }
@@ -133,7 +146,7 @@ module _ {p : Profile} {ts : List Seconds} {i : ℕ} {before : Seconds} {written
     pub along-need : Valid p → pagesPerHour (needAt written before) ≡ need (jobsOf p) (periodsOf p ts)
     unfolding pagesAfter lastOf needAfter needAt
     along-need v =
-        let all-pages = a .pages ∙ ap₂ (pagesAfter written before) no-job no-period in
+        let all-pages = a .pages ∙ at-end (greatestBefore p i) no-job no-period in
         let all-last = a .last ∙ ap (lastOf before) no-period in
         sym (need-is (jobsOf p) (periodsOf p ts) (v .jobs) along-permitted
         ∙ ap₂ (λ (w : ℕ) (t : Seconds). pagesPerHour (roundUp (3600 * w) (t .0))) all-pages all-last)

@@ -6,25 +6,29 @@ use native.Mathlib.Omega.{arith}
 use native.Mathlib.Nat.{le-refl, le-trans, mul-le-mul-right}
 use Rattle.model.specs.declared.Seconds.{Seconds}
 use Rattle.model.specs.declared.Job.{Job}
-use Rattle.model.specs.Model.{seconds, load, Allowed, jobLoss}
+use Rattle.model.specs.Model.{seconds, Allowed, jobLoss}
 use Rattle.model.specs.Most.{mostPages, mostRate}
 use Rattle.model.specs.Valid.{ValidJob}
-use Rattle.model.proofs.Bounds.{load-bound, job-loss-bound, need-bound as cycle-need-bound}
+use Rattle.model.proofs.Bounds.{job-loss-bound, need-bound as cycle-need-bound}
 use Rattle.model.proofs.Rounding.{multiple-is}
-use Rattle.step.specs.Step.{carried, needAt, NeedFits, Bounded}
+use Rattle.step.specs.Step.{load, carried, needAt, NeedFits, Bounded}
+
+pub load-bound : (greatest : ℕ) (j : Job) → ValidJob j → load greatest j ≤ mostPages
+unfolding load
+load-bound greatest j v = omega arith
 
 pub start-bounded : Bounded 0 (seconds 1) 0 0
 start-bounded = record { pages-to = le-refl 0; lost-to = le-refl 0 }
 
 module _ {i : ℕ} {before : Seconds} {written lost : ℕ} (h : Bounded i before written lost) where
-  pub next-bounded : (j : Job) (t : Seconds) → ValidJob j → Allowed j before t → Bounded (i + 1) t (carried written before t (load j)) (lost + jobLoss j t)
-  next-bounded j t v a =
+  pub next-bounded : (greatest : ℕ) (j : Job) (t : Seconds) → ValidJob j → Allowed j before t → Bounded (i + 1) t (carried written before t (load greatest j)) (lost + jobLoss j t)
+  next-bounded greatest j t v a =
       let k = t .0 / before .0 in
       let is : t .0 ≡ k * before .0 = multiple-is (t .0) (before .0) (a .multiple) in
       let on : written * k ≤ mostPages * i * before .0 * k = mul-le-mul-right k (h .pages-to) in
       let same : mostPages * i * t .0 ≡ mostPages * i * (k * before .0) = ap (λ (x : ℕ). mostPages * i * x) is in
       let pos : 1 ≤ t .0 = omega arith in
-      let own = load-bound j v in
+      let own = load-bound greatest j v in
       let here = job-loss-bound j t v in
       record { pages-to = omega arith; lost-to = omega arith }
 

@@ -1,15 +1,15 @@
--- Every period divides the next, so the pages in one period, taken over to the next and on to the last, are the pages in Tn seconds.
+-- Every period divides the next, so the pages in one period, taken over to the next and on to the last, are the loads of Tn seconds.
 -- Assumes nothing.
 use mathlib.Core.Path.{_≡_, _∙_, ap}
 use mathlib.Core.List.{List, [], _∷_}
-use Prim.Native.Nat.{ℕ, _+_, _*_, _/_, _%_, _≤_}
+use Prim.Native.Nat.{ℕ, _+_, _*_, _/_, _%_, _≤_, max}
 use native.Mathlib.Omega.{arith}
 use native.Mathlib.Nat.{mul-mod-left, mod-self, div-self, div-eq-of-eq-mul-left}
 use Rattle.model.specs.declared.Seconds.{Seconds}
 use Rattle.model.specs.declared.Job.{Job}
-use Rattle.model.specs.Model.{seconds, pagesPerHour, load, PermittedAfter, Permitted, lastOf, pagesIn, roundUp, need}
+use Rattle.model.specs.Model.{PermittedAfter, lastOf}
 use Rattle.model.specs.Valid.{ValidJobs}
-use Rattle.step.specs.Step.{carried, pagesAfter, needAfter}
+use Rattle.step.specs.Step.{load, loadsIn, carried, pagesAfter}
 use Rattle.model.proofs.Rounding.{multiple-is}
 
 -- a multiple of a multiple: the quotients multiply
@@ -41,24 +41,16 @@ last-positive before [] (t ∷ ts) v pos h = absurd h
 last-positive before (j ∷ js) [] v pos h = absurd h
 last-positive before (j ∷ js) (t ∷ ts) v pos h = last-positive t js ts (v .1) (omega arith) (h .1)
 
-pub pages-after : (pages : ℕ) (before : Seconds) (js : List Job) (ts : List Seconds) → ValidJobs js → 1 ≤ before .0 → PermittedAfter before js ts →
-    pagesAfter pages before js ts ≡ pages * (lastOf before ts .0 / before .0) + pagesIn (lastOf before ts) js ts
-unfolding pagesAfter pagesIn lastOf
-pages-after pages before [] [] v pos h = let e : before .0 / before .0 ≡ 1 = div-self pos in rw e (omega arith)
-pages-after pages before [] (t ∷ ts) v pos h = absurd h
-pages-after pages before (j ∷ js) [] v pos h = absurd h
-pages-after pages before (j ∷ js) (t ∷ ts) v pos h =
+pub pages-after : (greatest pages : ℕ) (before : Seconds) (js : List Job) (ts : List Seconds) → ValidJobs js → 1 ≤ before .0 → PermittedAfter before js ts →
+    pagesAfter greatest pages before js ts ≡ pages * (lastOf before ts .0 / before .0) + loadsIn greatest (lastOf before ts) js ts
+unfolding pagesAfter loadsIn lastOf
+pages-after greatest pages before [] [] v pos h = let e : before .0 / before .0 ≡ 1 = div-self pos in rw e (omega arith)
+pages-after greatest pages before [] (t ∷ ts) v pos h = absurd h
+pages-after greatest pages before (j ∷ js) [] v pos h = absurd h
+pages-after greatest pages before (j ∷ js) (t ∷ ts) v pos h =
     let p = before .0 in
     let last = lastOf t ts .0 in
-    let onward = pages-after (carried pages before t (load j)) t js ts (v .1) (omega arith) (h .1) in
+    let onward = pages-after (max greatest (j .metadata)) (carried pages before t (load greatest j)) t js ts (v .1) (omega arith) (h .1) in
     let whole : last / p ≡ t .0 / p * (last / t .0) = quotient-trans p (t .0) last pos (h .0 .multiple) (last-multiple t js ts (h .1)) in
     let moved : pages * (last / p) ≡ pages * (t .0 / p * (last / t .0)) = ap (λ (x : ℕ). pages * x) whole in
     omega arith
-
-module _ (js : List Job) (ts : List Seconds) (v : ValidJobs js) (h : Permitted js ts) where
-  pub need-is : need js ts ≡ pagesPerHour (needAfter 0 (seconds 1) js ts)
-  unfolding need needAfter
-  need-is =
-      let p = pages-after 0 (seconds 1) js ts v (omega arith) h in
-      let e : pagesIn (lastOf (seconds 1) ts) js ts ≡ pagesAfter 0 (seconds 1) js ts = omega arith in
-      ap (λ (x : ℕ). pagesPerHour (roundUp (3600 * x) (lastOf (seconds 1) ts .0))) e

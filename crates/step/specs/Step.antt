@@ -1,26 +1,50 @@
 -- What each job adds to the pages and to the loss of a plan, job after job: the pages of one period are carried on to the next, and
--- the loss is summed. Contracts of inner functions cite this, and those of no entry point. Assumes nothing.
+-- the loss is summed. proofs/Shared.antt shows that pages so summed are those of the model, moment by moment. Contracts of inner
+-- functions cite this, and those of no entry point. Assumes nothing.
 use mathlib.Core.List.{List, [], _∷_}
-use Prim.Native.Nat.{ℕ, _+_, _*_, _-_, _/_, _^_, _≤_}
+use Prim.Native.Nat.{ℕ, zero, suc, _+_, _*_, _-_, _/_, _^_, _≤_, max}
+use lib.ListN.{getD}
 use Rattle.model.specs.declared.Seconds.{Seconds}
 use Rattle.model.specs.declared.PagesPerHour.{PagesPerHour}
 use Rattle.model.specs.declared.Job.{Job}
-use Rattle.model.specs.Model.{pagesPerHour, load, lastOf, roundUp}
+use Rattle.model.specs.declared.Profile.{Profile}
+use Rattle.model.specs.Model.{pagesPerHour, noJob, lastOf, roundUp}
 use Rattle.model.specs.Most.{mostPages, mostRate, mostLoss}
+
+-- What need takes from a run of a job, where `greatest` is the greatest metadata of the jobs before it: its data, and what its metadata
+-- exceeds that by.
+unfoldable pub load : ℕ → Job → ℕ
+load greatest j = j .«data» + (j .metadata - greatest)
+
+-- The pages in `time` seconds, summed over these jobs: of each its load, as often as its period fits; `greatest` is the greatest metadata
+-- of the jobs before them.
+unfoldable pub loadsIn : ℕ → Seconds → List Job → List Seconds → ℕ
+loadsIn greatest time [] ts = 0
+loadsIn greatest time (j ∷ js) [] = 0
+loadsIn greatest time (j ∷ js) (t ∷ ts) = load greatest j * (time .0 / t .0) + loadsIn (max greatest (j .metadata)) time js ts
+
+-- The greatest metadata of the jobs before place k of a profile.
+unfoldable pub greatestBefore : Profile → ℕ → ℕ
+greatestBefore p zero = 0
+greatestBefore p (suc k) = max (greatestBefore p k) (getD (p .jobs) k noJob .metadata)
+
+-- The load of the job at place k.
+abbrev pub loadAt : Profile → ℕ → ℕ
+loadAt p k = load (greatestBefore p k) (getD (p .jobs) k noJob)
 
 -- The pages in `t` seconds, where jobs before write `written` in `before` seconds and a run of this one adds `own`.
 abbrev pub carried : ℕ → Seconds → Seconds → ℕ → ℕ
 carried written before t own = written * (t .0 / before .0) + own
 
--- The pages in Tn seconds, where jobs before these write `written` in `before` seconds.
-unfoldable pub pagesAfter : ℕ → Seconds → List Job → List Seconds → ℕ
-pagesAfter written before [] ts = written
-pagesAfter written before (j ∷ js) [] = written
-pagesAfter written before (j ∷ js) (t ∷ ts) = pagesAfter (carried written before t (load j)) t js ts
+-- The pages in Tn seconds, where jobs before these write `written` in `before` seconds; `greatest` is the greatest of their metadata.
+unfoldable pub pagesAfter : ℕ → ℕ → Seconds → List Job → List Seconds → ℕ
+pagesAfter greatest written before [] ts = written
+pagesAfter greatest written before (j ∷ js) [] = written
+pagesAfter greatest written before (j ∷ js) (t ∷ ts) = pagesAfter (max greatest (j .metadata)) (carried written before t (load greatest j)) t js ts
 
 -- The need of a plan so completed: its hourly pages, rounded up.
-unfoldable pub needAfter : ℕ → Seconds → List Job → List Seconds → ℕ
-needAfter written before js ts = roundUp (3600 * pagesAfter written before js ts) (lastOf before ts .0)
+unfoldable pub needAfter : ℕ → ℕ → Seconds → List Job → List Seconds → ℕ
+needAfter greatest written before js ts = roundUp (3600 * pagesAfter greatest written before js ts) (lastOf before ts .0)
 
 -- The need of a plan that writes this much in this time.
 unfoldable pub needAt : ℕ → Seconds → ℕ

@@ -1,25 +1,35 @@
 // What each job adds to the pages and to the loss of a plan: the only place where data and metadata are added, pages carried
 // from one period on to the next, and rates taken.
 //
-// specs/Step.antt says what is reckoned, and proofs/ that so carried along it is the model's need and loss. These functions
-// serve other crates of the planner, and their callers meet what they require. Nothing is assumed.
+// specs/Step.antt says what is reckoned, and proofs/ that so carried along it is the model's need, counted moment by moment, and
+// its loss. These functions serve other crates of the planner, and their callers meet what they require. Nothing is assumed.
 use model::Job;
 use model::PagesPerHour;
 use model::Seconds;
 ghost use mathlib.Core.Path.{_≡_};
-ghost use Prim.Native.Nat.{_≤_};
-ghost use Rattle.model.specs.Model.{pagesPerHour, load, cost, rate, jobLoss};
+ghost use Prim.Native.Nat.{_≤_, max};
+ghost use Rattle.model.specs.Model.{pagesPerHour, cost, rate, jobLoss};
 ghost use Rattle.model.specs.Most.{mostPages};
 ghost use Rattle.model.specs.Valid.{ValidJob};
-ghost use Rattle.step.specs.Step.{carried, needAt, NeedFits, hourly, lossAt, LossFits};
+ghost use Rattle.step.specs.Step.{load, carried, needAt, NeedFits, hourly, lossAt, LossFits};
 
-// The pages of a run, as need counts them: its data, and all of its metadata.
-pub fn need_pages(j: Job) -> u32
+// The pages of a run, as need counts them: its data, and what its metadata exceeds the `greatest` of the jobs before it by. So
+// much does the one commit grow.
+pub fn need_pages(j: Job, greatest: u32) -> u32
     requires { ⌜ ValidJob j ⌝ }
-    ensures { λ r. ⌜ r ≡ load j ⌝ }
+    ensures { λ r. ⌜ r ≡ load greatest j ⌝ }
 {
-    let metadata = j.metadata;
-    j.data + metadata
+    j.data + (greater(greatest, j.metadata) - greatest)
+}
+
+// The greater of two numbers of metadata pages: what one commit of both takes.
+pub fn greater(a: u32, b: u32) -> u32
+    ensures { λ r. ⌜ r ≡ max a b ⌝ }
+{
+    if a < b {
+        return b;
+    }
+    a
 }
 
 // The pages of a run, as loss counts them.
@@ -30,15 +40,8 @@ pub fn loss_pages(j: Job) -> u32
     j.data + j.metadata
 }
 
-// The pages that jobs write in t seconds, this job with them, where those before it have `written` so many in `before`.
-pub fn written_with(j: Job, written: u64, before: Seconds, t: Seconds) -> u64
-    requires { ⌜ ValidJob j × NeedFits written before × (t .0 ≤ 3600) ⌝ }
-    ensures { λ r. ⌜ r ≡ carried written before t (load j) ⌝ }
-{
-    carry(written, before, t, need_pages(j))
-}
-
-// The same where the job's pages are at hand.
+// The pages that jobs write in t seconds, where those before this one have `written` so many in `before`, and a run of this one
+// adds its `own`.
 pub fn carry(written: u64, before: Seconds, t: Seconds, own: u32) -> u64
     requires { ⌜ NeedFits written before × (t .0 ≤ 3600) × (own ≤ mostPages) ⌝ }
     ensures { λ r. ⌜ r ≡ carried written before t own ⌝ }

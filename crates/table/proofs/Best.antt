@@ -2,7 +2,7 @@
 -- Assumes nothing.
 use mathlib.Core.Path.{_≡_, ap}
 use mathlib.Core.List.{List, [], _∷_, List·Memᴰ}
-use Prim.Native.Nat.{_*_, _/_, _^_, _≤_, _<_}
+use Prim.Native.Nat.{ℕ, _*_, _/_, _^_, _≤_, _<_, max}
 use native.Mathlib.Omega.{arith}
 use native.Mathlib.Decide.{decLe, ℕ-discrete}
 use native.Mathlib.Nat.{le-trans, le-refl, mul-le-mul, div-le-self}
@@ -10,16 +10,19 @@ use lib.ListN.{length}
 use Rattle.model.specs.declared.Seconds.{Seconds}
 use Rattle.model.specs.declared.PagesPerHour.{PagesPerHour}
 use Rattle.model.specs.declared.Job.{Job}
-use Rattle.model.specs.Model.{seconds, load, Permitted, lastOf, pagesIn, need, FitsBudget, loss, Best}
+use Rattle.model.specs.Model.{seconds, Permitted, lastOf, pagesIn, need, FitsBudget, loss, Best}
 use Rattle.model.specs.Most.{mostPages}
 use Rattle.model.specs.Valid.{ValidJobs}
-use Rattle.model.proofs.Bounds.{load-bound, need-bound}
+use Rattle.model.proofs.Bounds.{need-bound}
 use Rattle.walk.specs.Walk.{walk, start}
 use Rattle.choose_offer.specs.Found.{Found, nothing, found, pick}
 use Rattle.choose_walk.specs.Best.{BestOrNone}
 use Rattle.choose_walk.proofs.Fold.{walk-best}
 use Rattle.choose.proofs.OneOutcome.{one-best}
+use Rattle.step.specs.Step.{load, loadsIn}
+use Rattle.step.proofs.Bounds.{load-bound}
 use Rattle.step.proofs.Pages.{last-positive}
+use Rattle.step.proofs.Shared.{pages-by-load}
 use Rattle.table.specs.Table.{TableOf}
 
 pub same-need : (js : List Job) {ts us : List Seconds} → ts ≡ us → need js ts .0 ≡ need js us .0
@@ -69,20 +72,21 @@ some-best js b us v h fits = go (walk (pick (b .0)) js start nothing) (walk-best
     go nothing none-fits = absurd (none-fits us h fits)
     go (found q l ts) k = (ts, k .best)
 
-pages-bound : (cycle : Seconds) (js : List Job) (ts : List Seconds) → ValidJobs js → pagesIn cycle js ts ≤ mostPages * cycle .0 * length js
-unfolding pagesIn
-pages-bound cycle [] ts v = omega arith
-pages-bound cycle (j ∷ js) [] v = omega arith
-pages-bound cycle (j ∷ js) (t ∷ ts) v =
-    let here : load j * (cycle .0 / t .0) ≤ mostPages * cycle .0 = mul-le-mul (load-bound j (v .0)) (div-le-self (cycle .0) (t .0)) in
-    omega (arith, pages-bound cycle js ts (v .1))
+loads-bound : (greatest : ℕ) (cycle : Seconds) (js : List Job) (ts : List Seconds) → ValidJobs js → loadsIn greatest cycle js ts ≤ mostPages * cycle .0 * length js
+unfolding loadsIn
+loads-bound g cycle [] ts v = omega arith
+loads-bound g cycle (j ∷ js) [] v = omega arith
+loads-bound g cycle (j ∷ js) (t ∷ ts) v =
+    let here : load g j * (cycle .0 / t .0) ≤ mostPages * cycle .0 = mul-le-mul (load-bound g j (v .0)) (div-le-self (cycle .0) (t .0)) in
+    omega (arith, loads-bound (max g (j .metadata)) cycle js ts (v .1))
 
 -- Every permitted list of at most eight jobs fits some 32-bit budget.
 pub need-small : (js : List Job) (ts : List Seconds) → ValidJobs js → length js ≤ 8 → Permitted js ts → need js ts .0 < 2 ^ 32
 unfolding need
 need-small js ts v few h =
     let cycle = lastOf (seconds 1) ts in
-    let most = need-bound (pagesIn cycle js ts) (cycle .0) (length js) (last-positive (seconds 1) js ts v (le-refl 1) h) (pages-bound cycle js ts v) in
+    let written : pagesIn cycle js ts ≤ mostPages * cycle .0 * length js = rw (pages-by-load js ts v h cycle) (loads-bound 0 cycle js ts v) in
+    let most = need-bound (pagesIn cycle js ts) (cycle .0) (length js) (last-positive (seconds 1) js ts v (le-refl 1) h) written in
     omega arith
 
 -- the rows of a table

@@ -13,11 +13,11 @@ use borrow.Author.Tests.{not-true, not-false, ltb-true, lt-ltb, ne-eqb}
 use Rattle.model.specs.declared.Seconds.{Seconds}
 use Rattle.model.specs.declared.PagesPerHour.{PagesPerHour}
 use Rattle.model.specs.declared.Profile.{Profile}
-use Rattle.model.specs.Model.{seconds, pagesPerHour, noJob, jobsOf, periodsOf, load, Permitted, need, jobLoss, loss}
+use Rattle.model.specs.Model.{seconds, pagesPerHour, noJob, jobsOf, periodsOf, Permitted, need, jobLoss, loss}
 use Rattle.model.specs.Testing.{allows}
 use Rattle.model.specs.Valid.{Valid}
 use Rattle.model.proofs.Allowing.{both-true, both-hold, allowed, allowed-back}
-use Rattle.step.specs.Step.{carried, needAt}
+use Rattle.step.specs.Step.{loadAt, carried, needAt}
 use Rattle.step.proofs.Along.{Along, along-starts, along-allows, along-next, along-beyond, along-permitted, along-need, along-lost}
 use Rattle.table_row.specs.declared.TableRow.{TableRow}
 use Rattle.table_row.specs.Table.{rowsIn, startAt, periodsAt, lossAt}
@@ -62,7 +62,7 @@ module _ {p : Profile} {ts : List Seconds} {before : Seconds} {written lost i : 
   pub next-place :
       let j = getD (p .jobs) i noJob in
       let t = getD ts i (seconds 0) in
-      allows j before t ≡ true → PlacesLeft p ts t (carried written before t (load j)) (lost + jobLoss j t) (i + 1)
+      allows j before t ≡ true → PlacesLeft p ts t (carried written before t (loadAt p i)) (lost + jobLoss j t) (i + 1)
   next-place e = record { along = along-next (l .along) v less (allowed _ before _ e); zeros = λ k past h. absurd (omega arith) }
 
 -- a place beyond the jobs

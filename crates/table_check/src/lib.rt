@@ -17,7 +17,8 @@ pub fn first_bad_row(p: Profile, table: &[u8]) -> usize
     ensures { λ r. ⌜ Checked p (now (table .entry)) r ⌝ }
 {
     let n = p.n as usize;
-    let rates = walk_arrays::rates_of(p);
+    let pages = walk_arrays::pages_of(p);
+    let rates = walk_arrays::rates_of(p, &pages);
     let rows = table.len() / ROW_SIZE;
     let mut start_before = PagesPerHour(0);
     let mut loss_before: u64 = 0;
@@ -47,7 +48,7 @@ pub fn first_bad_row(p: Profile, table: &[u8]) -> usize
                 break 'rows k + 1;
             }
             let fastest = rates[i];
-            written = step::written_with(j, written, before, t);
+            written = step::carry(written, before, t, pages[i]);
             lost += step::loss_with(j, PagesPerHour(fastest), t);
             before = t;
             i += 1;

@@ -86,4 +86,4 @@ none-stand n size =
 pub answers : {spans pages rates stiffnesses : List ℕ} {n : ℕ} {b : PagesPerHour} {ps flat flat′ marks′ : List ℕ} →
     Climbs spans pages rates stiffnesses 0 n b (seconds 1) 0 0 (replicate 8 0) ps flat flat′ (0 ∷ (noBound ∷ [])) marks′ → Collects spans pages rates stiffnesses n b (getD marks′ 0 0) flat′
 unfolding rowsFrom
-answers c = record { few = c .stands .count-to; size = c .stands .rows-size; rises = c .stands .rises; legible = c .stands .legible; are = λ js held. ap (λ (s : Stairs). s .rows) (c .walked .is js held) }
+answers c = record { few = c .stands .count-to; size = c .stands .rows-size; rises = c .stands .rises; legible = c .stands .legible; are = λ js held. ap (λ (s : Stairs). s .rows) (c .walked .is 0 js held) }

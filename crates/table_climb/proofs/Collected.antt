@@ -25,7 +25,7 @@ row-is n flat d i zero k less = absurd (omega arith)
 row-is n flat d i (suc r) zero less = ap (stairAt n flat) (let e : i ≡ i + 0 = omega arith in e)
 row-is n flat d i (suc r) (suc k) less = row-is n flat d (i + 1) r k (omega arith) ∙ ap (stairAt n flat) (let e : i + 1 + k ≡ i + suc k = omega arith in e)
 
-pub collected-answers : {spans pages rates stiffnesses : List ℕ} {p : Profile} {b : PagesPerHour} {r : ℕ} {flat : List ℕ} → Valid p → Held spans pages rates stiffnesses 0 (p .n) (jobsOf p) →
+pub collected-answers : {spans pages rates stiffnesses : List ℕ} {p : Profile} {b : PagesPerHour} {r : ℕ} {flat : List ℕ} → Valid p → Held spans pages rates stiffnesses 0 (p .n) 0 (jobsOf p) →
     Collects spans pages rates stiffnesses (p .n) b r flat → AnswersIn p b r flat
 collected-answers {p = p} {b} {r} {flat} v held c = record {
   size = c .size;

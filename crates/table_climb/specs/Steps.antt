@@ -29,4 +29,4 @@ pub record Collects (spans pages rates stiffnesses : List ℕ) (n : ℕ) (b : Pa
   pub size : length flat ≡ 768
   pub rises : Rises r flat
   pub legible : (a : ℕ) → a < r → Legible n flat a
-  pub are : (js : List Job) → Held spans pages rates stiffnesses 0 n js → stairsIn n r flat ≡ walk (enter most (b .0)) js start noStairs .rows
+  pub are : (js : List Job) → Held spans pages rates stiffnesses 0 n 0 js → stairsIn n r flat ≡ walk (enter most (b .0)) js start noStairs .rows

@@ -27,7 +27,7 @@ pub fn answers_under(p: Profile, budget: PagesPerHour, rows: &mut [u64; 768]) ->
 {
     let spans = walk_arrays::spans_of(p);
     let pages = walk_arrays::pages_of(p);
-    let rates = walk_arrays::rates_of(p);
+    let rates = walk_arrays::rates_of(p, &pages);
     let stiffnesses = walk_arrays::stiffnesses_of(p);
     next_answers(
         &spans,

@@ -7,9 +7,11 @@ use native.Mathlib.Nat.{le-refl}
 use lib.ListN.{length}
 use Rattle.model.specs.declared.Job.{Job}
 use Rattle.model.specs.Most.{mostLoss, mostRate}
-use Rattle.model.proofs.Bounds.{job-loss-bound, load-bound, hourly-bound}
-use Rattle.model.specs.Model.{seconds, load}
+use Rattle.model.proofs.Bounds.{job-loss-bound, hourly-bound}
+use Rattle.model.specs.Model.{seconds}
 use Rattle.model.specs.Valid.{ValidJobs}
+use Rattle.step.specs.Step.{load}
+use Rattle.step.proofs.Bounds.{load-bound}
 use Rattle.walk.specs.Walk.{lossFloor, leastNeeds}
 
 pub loss-floor-bound : (js : List Job) (t : ℕ) → ValidJobs js → lossFloor js t ≤ mostLoss * length js
@@ -20,10 +22,10 @@ loss-floor-bound (j ∷ js) t v =
     let later = loss-floor-bound js t (v .1) in
     omega arith
 
-pub least-needs-bound : (js : List Job) → ValidJobs js → leastNeeds js ≤ mostRate * length js
+pub least-needs-bound : (greatest : ℕ) (js : List Job) → ValidJobs js → leastNeeds greatest js ≤ mostRate * length js
 unfolding leastNeeds
-least-needs-bound [] v = le-refl 0
-least-needs-bound (j ∷ js) v =
-    let here = hourly-bound (load j) (j .hi .0) (load-bound j (v .0)) in
-    let later = least-needs-bound js (v .1) in
+least-needs-bound g [] v = le-refl 0
+least-needs-bound g (j ∷ js) v =
+    let here = hourly-bound (load g j) (j .hi .0) (load-bound g j (v .0)) in
+    let later = least-needs-bound (max g (j .metadata)) js (v .1) in
     omega arith

@@ -2,7 +2,7 @@
 -- Assumes nothing.
 use mathlib.Core.Path.{_≡_, refl, sym, _∙_, ap, subst}
 use mathlib.Core.List.{List, [], _∷_, _++_, map}
-use Prim.Native.Nat.{ℕ, zero, suc, _+_, _*_, _-_, _/_, _%_, _≤_, _<_, zero-le}
+use Prim.Native.Nat.{ℕ, zero, suc, _+_, _*_, _-_, _/_, _%_, _≤_, _<_, zero-le, max}
 use native.Mathlib.Omega.{arith}
 use native.Mathlib.Numerals.{add-one}
 use native.Mathlib.Nat.{le-refl, le-trans, mul-mod-left, add-mod-right, mul-div-cancel, div-mul-le-self}
@@ -54,10 +54,10 @@ module _ {A : Type 0} (f : ℕ → ℕ → List Seconds → A → A) (spans page
     pub before : take i ps ≡ take i ps₀
     pub multiple : t .0 % step .0 ≡ 0
     pub above : getD spans i 0 ≤ t .0
-    pub is : (j : Job) (js : List Job) → Held spans pages rates stiffnesses i n (j ∷ js) →
-        walkFrom f j js (node step written lost (periodsIn i ps₀)) t acc ≡ walk f (j ∷ js) (node step written lost (periodsIn i ps₀)) acc₀
-    pub settled : (j : Job) (js : List Job) → Held spans pages rates stiffnesses i n (j ∷ js) →
-        SettledTo f j js (node step written lost (periodsIn i ps₀)) (t .0) acc
+    pub is : (g : ℕ) (j : Job) (js : List Job) → Held spans pages rates stiffnesses i n g (j ∷ js) →
+        walkFrom f j js (node step g written lost (periodsIn i ps₀)) t acc ≡ walk f (j ∷ js) (node step g written lost (periodsIn i ps₀)) acc₀
+    pub settled : (g : ℕ) (j : Job) (js : List Job) → Held spans pages rates stiffnesses i n g (j ∷ js) →
+        SettledTo f j js (node step g written lost (periodsIn i ps₀)) (t .0) acc
 
   -- A turn of the loop: what stands before it, and a period that may be tried; the update absorbs what it visits.
   pub record Turn (Good : A → Type 0) (tries : Tries) (ps₀ : List ℕ) (acc₀ : A) (ps : List ℕ) (acc : A) (t : Seconds) : Type 0 where
@@ -71,7 +71,7 @@ module _ {A : Type 0} (f : ℕ → ℕ → List Seconds → A → A) (spans page
 
   -- The walk below the period t takes what is had from acc to acc′.
   abbrev Below : List ℕ → Seconds → A → A → Type 0
-  Below ps₀ t acc acc′ = (j : Job) (js : List Job) → Held spans pages rates stiffnesses i n (j ∷ js) → walk f js (next j (node step written lost (periodsIn i ps₀)) t) acc ≡ acc′
+  Below ps₀ t acc acc′ = (g : ℕ) (j : Job) (js : List Job) → Held spans pages rates stiffnesses i n g (j ∷ js) → walk f js (next j (node step g written lost (periodsIn i ps₀)) t) acc ≡ acc′
 
 module _ {A : Type 0} {f : ℕ → ℕ → List Seconds → A → A} {spans pages rates stiffnesses : List ℕ} {i n : ℕ} {step : Seconds} {written lost : ℕ} where
   module _ (r : Ready spans pages rates stiffnesses i n step written lost) where
@@ -81,9 +81,9 @@ module _ {A : Type 0} {f : ℕ → ℕ → List Seconds → A → A} {spans page
     unfolding needAt walkBy
     up-leaf {ps} {acc} {acc′} e o = record { before = refl; is = one }
       where
-        one : (js : List Job) → Held spans pages rates stiffnesses i n js → acc′ ≡ walk f js (node step written lost (periodsIn i ps)) acc
-        one js h =
-            let none : js ≡ [] = held-none js (subst (λ (x : ℕ). Held spans pages rates stiffnesses x n js) e h) in
+        one : (g : ℕ) (js : List Job) → Held spans pages rates stiffnesses i n g js → acc′ ≡ walk f js (node step g written lost (periodsIn i ps)) acc
+        one g js h =
+            let none : js ≡ [] = held-none js (subst (λ (x : ℕ). Held spans pages rates stiffnesses x n g js) e h) in
             rw (none, e) o
 
     -- the loop opens at the first period that may be tried
@@ -92,24 +92,24 @@ module _ {A : Type 0} {f : ℕ → ℕ → List Seconds → A → A} {spans page
       up-starts {ps} {acc} =
           rw told (record { before = refl; multiple = mul-mod-left _ _; above = round-up-above (getD spans i 0) (r .from); is = opens; settled = none })
         where
-          opens : (j : Job) (js : List Job) → Held spans pages rates stiffnesses i n (j ∷ js) →
-              walkFrom f j js (node step written lost (periodsIn i ps)) (triesHeld spans i step .first) acc ≡ walk f (j ∷ js) (node step written lost (periodsIn i ps)) acc
-          opens j js h = rw (h .jobs .0 .shortest) (sym (loop-opens f j js (node step written lost (periodsIn i ps)) acc))
+          opens : (g : ℕ) (j : Job) (js : List Job) → Held spans pages rates stiffnesses i n g (j ∷ js) →
+              walkFrom f j js (node step g written lost (periodsIn i ps)) (triesHeld spans i step .first) acc ≡ walk f (j ∷ js) (node step g written lost (periodsIn i ps)) acc
+          opens g j js h = rw (h .jobs .0 .shortest) (sym (loop-opens f j js (node step g written lost (periodsIn i ps)) acc))
 
-          none : (j : Job) (js : List Job) → Held spans pages rates stiffnesses i n (j ∷ js) → SettledTo f j js (node step written lost (periodsIn i ps)) (triesHeld spans i step .first .0) acc
-          none j js h = rw (h .jobs .0 .shortest) (settled-first f j js (node step written lost (periodsIn i ps)) acc (r .from))
+          none : (g : ℕ) (j : Job) (js : List Job) → Held spans pages rates stiffnesses i n g (j ∷ js) → SettledTo f j js (node step g written lost (periodsIn i ps)) (triesHeld spans i step .first .0) acc
+          none g j js h = rw (h .jobs .0 .shortest) (settled-first f j js (node step g written lost (periodsIn i ps)) acc (r .from))
 
       -- and ends past the last
       pub up-done : i < n → {ps₀ ps : List ℕ} {acc₀ acc : A} {t : Seconds} → Up f spans pages rates stiffnesses i n step written lost ps₀ acc₀ ps acc t →
           tries .last .0 < t .0 → Walked f spans pages rates stiffnesses i n step written lost ps₀ ps acc₀ acc
       up-done less {ps₀} {ps} {acc₀} {acc} {t} u past = record { before = u .before; is = done }
         where
-          done : (js : List Job) → Held spans pages rates stiffnesses i n js → acc ≡ walk f js (node step written lost (periodsIn i ps₀)) acc₀
-          done js h =
+          done : (g : ℕ) (js : List Job) → Held spans pages rates stiffnesses i n g js → acc ≡ walk f js (node step g written lost (periodsIn i ps₀)) acc₀
+          done g js h =
               let o = held-open js less h in
-              let k : Held spans pages rates stiffnesses i n (o .job ∷ o .rest) = subst (Held spans pages rates stiffnesses i n) (o .is) h in
-              let end = loop-ends f (o .job) (o .rest) (node step written lost (periodsIn i ps₀)) t acc (r .from) (rw (told, o .holds .longest) at past) in
-              rw (o .is) (sym end ∙ u .is (o .job) (o .rest) k)
+              let k : Held spans pages rates stiffnesses i n g (o .job ∷ o .rest) = subst (Held spans pages rates stiffnesses i n g) (o .is) h in
+              let end = loop-ends f (o .job) (o .rest) (node step g written lost (periodsIn i ps₀)) t acc (r .from) (rw (told, o .holds .longest) at past) in
+              rw (o .is) (sym end ∙ u .is g (o .job) (o .rest) k)
 
   module _ {Good : A → Type 0} {tries : Tries} {ps₀ ps : List ℕ} {acc₀ acc : A} {t : Seconds} (u : Turn f spans pages rates stiffnesses i n step written lost Good tries ps₀ acc₀ ps acc t) where
     pub up-place : i < 8
@@ -132,18 +132,18 @@ module _ {A : Type 0} {f : ℕ → ℕ → List Seconds → A → A} {spans page
     pub up-falls : tries .last .0 + 1 - (t .0 + step .0) < tries .last .0 + 1 - t .0
     up-falls = omega (arith, u .on, u .ready .from)
 
-    opened : Opened spans pages rates stiffnesses i n (u .ready .js)
+    opened : Opened spans pages rates stiffnesses i n (u .ready .greatest) (u .ready .js)
     opened = held-open (u .ready .js) (u .less) (u .ready .held)
 
     -- the loss so far with this job's
     pub up-loss-fits : (i < 8) × ((lost ≤ mostLoss * i) × LossHeldFits pages rates stiffnesses i t)
     up-loss-fits = (up-place, (u .ready .bounded .lost-to, job-loss-fits (opened .holds) t (rw (opened .holds .shortest) at (u .up .above))))
 
-    loss-here : (j : Job) {js : List Job} → HoldsJob spans pages rates stiffnesses i j js → lossHeld pages rates stiffnesses i t ≡ jobLoss j t
+    loss-here : {g : ℕ} (j : Job) {js : List Job} → HoldsJob spans pages rates stiffnesses i g j js → lossHeld pages rates stiffnesses i t ≡ jobLoss j t
     loss-here j h = job-loss-is h t (rw (h .shortest) at (u .up .above))
 
     pub up-later : Later spans pages rates stiffnesses (i + 1) n t
-    up-later = record { js = opened .rest; held = opened .later; from = omega (arith, opened .holds .valid .lo-from, opened .holds .shortest, u .up .above) }
+    up-later = record { greatest = max (u .ready .greatest) (opened .job .metadata); js = opened .rest; held = opened .later; from = omega (arith, opened .holds .valid .lo-from, opened .holds .shortest, u .up .above) }
 
     -- the first multiplier that reaches the interval
     pub up-first : (i < 8) × ((1 ≤ step .0) × (1 ≤ tries .first .0 / step .0))
@@ -162,19 +162,19 @@ module _ {A : Type 0} {f : ℕ → ℕ → List Seconds → A → A} {spans page
     turn {ps′} {acc′} same below =
         record { before = same; multiple = multiple-more (t .0) (step .0) (u .up .multiple); above = omega (arith, u .up .above); is = turned; settled = more }
       where
-        turned : (j : Job) (js : List Job) → Held spans pages rates stiffnesses i n (j ∷ js) →
-            walkFrom f j js (node step written lost (periodsIn i ps₀)) (seconds (t .0 + step .0)) acc′ ≡ walk f (j ∷ js) (node step written lost (periodsIn i ps₀)) acc₀
-        turned j js h =
-            ap (walkFrom f j js (node step written lost (periodsIn i ps₀)) (seconds (t .0 + step .0))) (sym (below j js h))
-            ∙ sym (loop-takes f j js (node step written lost (periodsIn i ps₀)) t acc (u .ready .from) (rw (h .jobs .0 .longest) at on-held))
-            ∙ u .up .is j js h
+        turned : (g : ℕ) (j : Job) (js : List Job) → Held spans pages rates stiffnesses i n g (j ∷ js) →
+            walkFrom f j js (node step g written lost (periodsIn i ps₀)) (seconds (t .0 + step .0)) acc′ ≡ walk f (j ∷ js) (node step g written lost (periodsIn i ps₀)) acc₀
+        turned g j js h =
+            ap (walkFrom f j js (node step g written lost (periodsIn i ps₀)) (seconds (t .0 + step .0))) (sym (below g j js h))
+            ∙ sym (loop-takes f j js (node step g written lost (periodsIn i ps₀)) t acc (u .ready .from) (rw (h .jobs .0 .longest) at on-held))
+            ∙ u .up .is g j js h
 
-        more : (j : Job) (js : List Job) → Held spans pages rates stiffnesses i n (j ∷ js) → SettledTo f j js (node step written lost (periodsIn i ps₀)) (t .0 + step .0) acc′
-        more j js h =
+        more : (g : ℕ) (j : Job) (js : List Job) → Held spans pages rates stiffnesses i n g (j ∷ js) → SettledTo f j js (node step g written lost (periodsIn i ps₀)) (t .0 + step .0) acc′
+        more g j js h =
             let valid = held-valid js (held-next j js h) in
-            let had = u .up .settled j js h in
-            subst (SettledTo f j js (node step written lost (periodsIn i ps₀)) (t .0 + step .0)) (below j js h)
-            (settled-more f j js (node step written lost (periodsIn i ps₀)) acc (u .ready .from) valid (t .0) (up-later .from) (u .up .multiple) had (u .absorbs) (u .good) multiples-lists)
+            let had = u .up .settled g j js h in
+            subst (SettledTo f j js (node step g written lost (periodsIn i ps₀)) (t .0 + step .0)) (below g j js h)
+            (settled-more f j js (node step g written lost (periodsIn i ps₀)) acc (u .ready .from) valid (t .0) (up-later .from) (u .up .multiple) had (u .absorbs) (u .good) multiples-lists)
 
     -- without pages, and at a multiple of an earlier period: nothing here that was not had there
     pub up-pass : Repeats pages i step (tries .first) t → Up f spans pages rates stiffnesses i n step written lost ps₀ acc₀ ps acc (seconds (t .0 + step .0))
@@ -187,12 +187,12 @@ module _ {A : Type 0} {f : ℕ → ℕ → List Seconds → A → A} {spans page
         passed = rw (u .told, mul-div-cancel q (u .ready .from)) at (repeats .passed)
 
         below : Below f spans pages rates stiffnesses i n step written lost ps₀ t acc acc
-        below j js h =
-            let idle : Pageless j = record { for-need = sym (h .jobs .0 .for-need) ∙ repeats .for-need; for-loss = sym (h .jobs .0 .for-loss) ∙ repeats .for-loss } in
+        below g j js h =
+            let idle : Pageless g j = record { for-need = sym (h .jobs .0 .for-need) ∙ repeats .for-need; for-loss = sym (h .jobs .0 .for-loss) ∙ repeats .for-loss } in
             let valid = held-valid js (held-next j js h) in
-            let had = u .up .settled j js h in
+            let had = u .up .settled g j js h in
             let over : PassedOver (t .0 / step .0) (roundUp (j .lo .0) (step .0)) = rw (h .jobs .0 .shortest) at passed in
-            settled-passes f j js (node step written lost (periodsIn i ps₀)) acc (u .ready .from) valid (t .0) (up-later .from) (u .up .multiple) had idle over multiples-lists
+            settled-passes f j js (node step g written lost (periodsIn i ps₀)) acc (u .ready .from) valid (t .0) (up-later .from) (u .up .multiple) had idle over multiples-lists
 
     -- the pages so far are `more`
     module _ {more : ℕ} (carries : more ≡ carried written step t (getD pages i 0)) where
@@ -213,21 +213,21 @@ module _ {A : Type 0} {f : ℕ → ℕ → List Seconds → A → A} {spans page
         up-floor =
             let l = up-later in
             let k = loss-floor-bound (l .js) (t .0) (held-valid (l .js) (l .held)) in
-            omega (arith, k, floor (l .js) (l .held), up-lost, l .held .count, l .held .most)
+            omega (arith, k, floor (l .greatest) (l .js) (l .held), up-lost, l .held .count, l .held .most)
 
         -- what is had stands against the loss floor: nothing from here on changes it
         pub up-left : Keeps f acc 0 (here + low) → Walked f spans pages rates stiffnesses i n step written lost ps₀ ps acc₀ acc
         up-left keeps = record { before = u .up .before; is = left }
           where
-            left : (js : List Job) → Held spans pages rates stiffnesses i n js → acc ≡ walk f js (node step written lost (periodsIn i ps₀)) acc₀
-            left js h =
+            left : (g : ℕ) (js : List Job) → Held spans pages rates stiffnesses i n g js → acc ≡ walk f js (node step g written lost (periodsIn i ps₀)) acc₀
+            left g js h =
                 let o = held-open js (u .less) h in
-                let k : Held spans pages rates stiffnesses i n (o .job ∷ o .rest) = subst (Held spans pages rates stiffnesses i n) (o .is) h in
+                let k : Held spans pages rates stiffnesses i n g (o .job ∷ o .rest) = subst (Held spans pages rates stiffnesses i n g) (o .is) h in
                 let e = loss-here (o .job) (o .holds) in
-                let g = floor (o .rest) (o .later) in
+                let low-is = floor _ (o .rest) (o .later) in
                 let valid = held-valid (o .rest) (o .later) in
-                let stays = loop-left f (o .job) (o .rest) (node step written lost (periodsIn i ps₀)) t (here + low) acc valid (up-later .from) (omega arith) keeps in
-                rw (o .is) (sym stays ∙ u .up .is (o .job) (o .rest) k)
+                let stays = loop-left f (o .job) (o .rest) (node step g written lost (periodsIn i ps₀)) t (here + low) acc valid (up-later .from) (omega arith) keeps in
+                rw (o .is) (sym stays ∙ u .up .is g (o .job) (o .rest) k)
 
         module _ {more : ℕ} (carries : more ≡ carried written step t (getD pages i 0)) where
           pub up-skip : ChangesNothing f spans rates (i + 1) n t more (here + low) acc →
@@ -235,10 +235,10 @@ module _ {A : Type 0} {f : ℕ → ℕ → List Seconds → A → A} {spans page
           up-skip nothing = turn (u .up .before) below
             where
               below : Below f spans pages rates stiffnesses i n step written lost ps₀ t acc acc
-              below j js h =
+              below g j js h =
                   let e = loss-here j (h .jobs .0) in
-                  let g = floor js (held-next j js h) in
-                  let stays = nothing pages stiffnesses js (lost + jobLoss j t) (periodsIn i ps₀ ++ (t ∷ [])) (held-next j js h) (omega arith) in
+                  let low-is = floor _ js (held-next j js h) in
+                  let stays = nothing pages stiffnesses _ js (lost + jobLoss j t) (periodsIn i ps₀ ++ (t ∷ [])) (held-next j js h) (omega arith) in
                   rw (carries, h .jobs .0 .for-need) at stays
 
       module _ {more : ℕ} (carries : more ≡ carried written step t (getD pages i 0)) where
@@ -256,9 +256,9 @@ module _ {A : Type 0} {f : ℕ → ℕ → List Seconds → A → A} {spans page
             same = shorter i ps′ (set ps i (t .0)) (rw (add-one i) at (w .before)) ∙ take-set-le i ps i (t .0) (le-refl i) ∙ u .up .before
 
             below : Below f spans pages rates stiffnesses i n step written lost ps₀ t acc acc′
-            below j js h =
+            below g j js h =
                 let e : here ≡ lost + jobLoss j t = own ∙ ap (λ (x : ℕ). lost + x) (loss-here j (h .jobs .0)) in
                 let so-far = ap (λ (l : List ℕ). map seconds l ++ (t ∷ [])) (u .up .before) in
                 let ts : periodsIn (i + 1) (set ps i (t .0)) ≡ periodsIn i ps₀ ++ (t ∷ []) = periods-more i (t .0) ps place ∙ so-far in
-                let after = w .is js (held-next j js h) in
+                let after = w .is _ js (held-next j js h) in
                 sym (rw (carries, h .jobs .0 .for-need, e, ts) at after)

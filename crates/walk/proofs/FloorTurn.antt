@@ -20,17 +20,17 @@ pub record FloorFrom (spans pages rates stiffnesses : List ℕ) (i n : ℕ) (t :
   pub from : i ≤ k
   pub to : k ≤ n
   pub small : floor ≤ mostLoss * (n - k)
-  pub is : (js : List Job) → Held spans pages rates stiffnesses k n js → floor ≡ lossFloor js (t .0)
+  pub is : (greatest : ℕ) (js : List Job) → Held spans pages rates stiffnesses k n greatest js → floor ≡ lossFloor js (t .0)
 
 module _ {spans pages rates stiffnesses : List ℕ} {i n : ℕ} {t : Seconds} (l : Later spans pages rates stiffnesses i n t) where
   pub none-summed : FloorFrom spans pages rates stiffnesses i n t 0 n
   unfolding lossFloor
   none-summed =
       let c = l .held .count in
-      record { from = omega arith; to = omega arith; small = omega arith; is = λ js h. ap (λ (ks : List Job). lossFloor ks (t .0)) (sym (held-none js h)) }
+      record { from = omega arith; to = omega arith; small = omega arith; is = λ g js h. ap (λ (ks : List Job). lossFloor ks (t .0)) (sym (held-none js h)) }
 
   module _ {floor k : ℕ} (f : FloorFrom spans pages rates stiffnesses i n t floor k) (less : i < k) (u : Seconds) (longer : u .0 ≡ max (getD spans (k - 1) 0) (t .0)) where
-    at-least : (j : Job) {js : List Job} → HoldsJob spans pages rates stiffnesses (k - 1) j js → j .lo .0 ≤ u .0
+    at-least : {greatest : ℕ} (j : Job) {js : List Job} → HoldsJob spans pages rates stiffnesses (k - 1) greatest j js → j .lo .0 ≤ u .0
     at-least j h = let s = h .shortest in omega arith
 
     pub floor-fits : LossHeldFits pages rates stiffnesses (k - 1) u
@@ -58,11 +58,12 @@ module _ {spans pages rates stiffnesses : List ℕ} {i n : ℕ} {t : Seconds} (l
           again : k - 1 + 1 ≡ k
           again = omega arith
 
-          opened : (js : List Job) → Held spans pages rates stiffnesses (k - 1) n js → x + floor ≡ lossFloor js (t .0)
-          opened js h =
+          opened : (greatest : ℕ) (js : List Job) → Held spans pages rates stiffnesses (k - 1) n greatest js → x + floor ≡ lossFloor js (t .0)
+          opened g js h =
               let to = f .to in
               let o = held-open js (omega arith) h in
+              let later = max g (o .job .metadata) in
               let is-max : u ≡ seconds (max (o .job .lo .0) (t .0)) = ap seconds (longer ∙ ap (λ (y : ℕ). max y (t .0)) (o .holds .shortest)) in
               let here : x ≡ jobLoss (o .job) (seconds (max (o .job .lo .0) (t .0))) = lost ∙ job-loss-is (o .holds) u (at-least (o .job) (o .holds)) ∙ ap (jobLoss (o .job)) is-max in
-              let rest : floor ≡ lossFloor (o .rest) (t .0) = f .is (o .rest) (subst (λ (y : ℕ). Held spans pages rates stiffnesses y n (o .rest)) again (o .later)) in
+              let rest : floor ≡ lossFloor (o .rest) (t .0) = f .is later (o .rest) (subst (λ (y : ℕ). Held spans pages rates stiffnesses y n later (o .rest)) again (o .later)) in
               ap₂ (λ (a b : ℕ). a + b) here rest ∙ sym (ap (λ (ks : List Job). lossFloor ks (t .0)) (o .is))

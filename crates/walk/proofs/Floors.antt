@@ -5,14 +5,14 @@ use mathlib.Core.Logic.{⊎-elim}
 use mathlib.Core.List.{List, [], _∷_, List·Memᴰ, List·Memᴰ·not-nil, List·Memᴰ·cases-cons}
 use Prim.Native.Nat.{ℕ, zero, suc, _+_, _*_, _-_, _/_, _%_, _≤_, _<_, max}
 use native.Mathlib.Omega.{arith}
-use native.Mathlib.Nat.{le-refl, le-trans, add-le-add, mul-le-mul-left, mul-le-mul-right, pow-le-pow-left, div-mul-le-self, le-div-iff-mul-le, le-of-mul-le-mul-right, mod-self, mod-eq-of-lt}
+use native.Mathlib.Nat.{le-refl, le-trans, add-le-add, mul-le-mul-left, mul-le-mul-right, pow-le-pow-left, div-mul-le-self, le-div-iff-mul-le, le-of-mul-le-mul-right, mod-self}
 use Rattle.model.specs.declared.Seconds.{Seconds}
 use Rattle.model.specs.declared.Job.{Job}
-use Rattle.model.specs.Model.{load, cost, Allowed, PermittedAfter, lastOf, roundUp, rate, jobLoss, loss}
+use Rattle.model.specs.Model.{cost, Allowed, PermittedAfter, lastOf, roundUp, rate, jobLoss, loss}
 use Rattle.model.specs.Valid.{ValidJob, ValidJobs}
-use Rattle.step.specs.Step.{carried, pagesAfter, needAfter}
+use Rattle.step.specs.Step.{load, carried, pagesAfter, needAfter}
 use Rattle.walk.specs.Walk.{lossFloor, leastNeeds, needFloor}
-use Rattle.model.proofs.Rounding.{round-up-le, round-up-above, multiple-is, split-product}
+use Rattle.model.proofs.Rounding.{round-up-le, round-up-above, multiple-is, multiple-above, split-product}
 use Rattle.step.proofs.Pages.{multiple-trans}
 
 pub quotient-falls : (a : ℕ) {t u : ℕ} → 1 ≤ t → t ≤ u → a / u ≤ a / t
@@ -35,13 +35,6 @@ loss-floor-mono (j ∷ js) {t} {u} v h =
     let wider : max (j .lo .0) t ≤ max (j .lo .0) u = omega arith in
     let pos : 1 ≤ max (j .lo .0) t = omega arith in
     add-le-add (job-loss-mono j pos wider) (loss-floor-mono js (v .1) h)
-
--- a multiple that is not zero is not below
-pub multiple-above : (t u : ℕ) → 1 ≤ u → u % t ≡ 0 → t ≤ u
-multiple-above t u pos e = by-contra (λ (less : u < t). let s : u % t ≡ u = mod-eq-of-lt less in omega arith)
-  where
-    by-contra : (u < t → ⊥) → t ≤ u
-    by-contra f = omega arith
 
 pub loss-floor : (t : Seconds) (js : List Job) (ts : List Seconds) → ValidJobs js → PermittedAfter t js ts → lossFloor js (t .0) ≤ loss js ts
 unfolding lossFloor loss
@@ -73,30 +66,30 @@ one-more s q most k {c} {t} {u} pos u-pos is small whole =
     positive (suc x) h = omega arith
 
 -- one more job at a permitted period does not lower the floor
-pub need-floor-step : (pages : ℕ) (t u : Seconds) (j : Job) (js : List Job) → ValidJob j → 1 ≤ t .0 → Allowed j t u →
-    needFloor pages t (j ∷ js) ≤ needFloor (carried pages t u (load j)) u js
+pub need-floor-step : (greatest pages : ℕ) (t u : Seconds) (j : Job) (js : List Job) → ValidJob j → 1 ≤ t .0 → Allowed j t u →
+    needFloor greatest pages t (j ∷ js) ≤ needFloor (max greatest (j .metadata)) (carried pages t u (load greatest j)) u js
 unfolding needFloor leastNeeds
-need-floor-step pages t u j js v pos a =
+need-floor-step g pages t u j js v pos a =
     let k = u .0 / t .0 in
-    let more = 3600 * (pages * k + load j) in
+    let more = 3600 * (pages * k + load g j) in
     let u-pos : 1 ≤ u .0 = omega arith in
     let is : u .0 ≡ k * t .0 = multiple-is (u .0) (t .0) (a .multiple) in
-    let q = 3600 * load j / j .hi .0 in
-    let small : q * u .0 ≤ 3600 * load j = le-trans (mul-le-mul-left q (a .below)) (div-mul-le-self (3600 * load j) (j .hi .0)) in
+    let q = 3600 * load g j / j .hi .0 in
+    let small : q * u .0 ≤ 3600 * load g j = le-trans (mul-le-mul-left q (a .below)) (div-mul-le-self (3600 * load g j) (j .hi .0)) in
     let whole : more ≤ roundUp more (u .0) * u .0 = round-up-above more u-pos in
-    let parts : 3600 * pages * k + 3600 * load j ≤ roundUp more (u .0) * u .0 = omega arith in
+    let parts : 3600 * pages * k + 3600 * load g j ≤ roundUp more (u .0) * u .0 = omega arith in
     let floor = one-more (3600 * pages) q (roundUp more (u .0)) k pos u-pos is small parts in
     omega arith
 
-pub need-floor : (pages : ℕ) (t : Seconds) (js : List Job) (ts : List Seconds) → ValidJobs js → 1 ≤ t .0 → PermittedAfter t js ts → needFloor pages t js ≤ needAfter pages t js ts
+pub need-floor : (greatest pages : ℕ) (t : Seconds) (js : List Job) (ts : List Seconds) → ValidJobs js → 1 ≤ t .0 → PermittedAfter t js ts → needFloor greatest pages t js ≤ needAfter greatest pages t js ts
 unfolding needFloor leastNeeds needAfter pagesAfter lastOf
-need-floor pages t [] [] v pos h = omega arith
-need-floor pages t [] (u ∷ us) v pos h = absurd h
-need-floor pages t (j ∷ js) [] v pos h = absurd h
-need-floor pages t (j ∷ js) (u ∷ us) v pos h =
+need-floor g pages t [] [] v pos h = omega arith
+need-floor g pages t [] (u ∷ us) v pos h = absurd h
+need-floor g pages t (j ∷ js) [] v pos h = absurd h
+need-floor g pages t (j ∷ js) (u ∷ us) v pos h =
     let valid = v .0 in
     let allowed = h .0 in
-    le-trans (need-floor-step pages t u j js valid pos allowed) (need-floor (carried pages t u (load j)) u js us (v .1) (omega arith) (h .1))
+    le-trans (need-floor-step g pages t u j js valid pos allowed) (need-floor (max g (j .metadata)) (carried pages t u (load g j)) u js us (v .1) (omega arith) (h .1))
 
 -- every interval holds a multiple of whatever divides the period before
 reached : (before : Seconds) (d : ℕ) {j : Job} (js : List Job) (ts : List Seconds) → 1 ≤ d → before .0 % d ≡ 0 → List·Memᴰ j js → PermittedAfter before js ts → j .lo .0 ≤ j .hi .0 / d * d

@@ -4,30 +4,24 @@
 use mathlib.Core.Path.{_≡_, sym, _∙_, ap, ap₂, subst}
 use mathlib.Core.Logic.{⊎-elim}
 use mathlib.Core.List.{List, [], _∷_, _++_, List·Memᴰ, List·Memᴰ·not-nil, List·Memᴰ·cases-cons}
-use Prim.Native.Nat.{ℕ, zero, suc, _+_, _*_, _-_, _/_, _%_, _^_, _≤_, _<_}
+use Prim.Native.Nat.{ℕ, suc, _+_, _*_, _-_, _/_, _%_, _^_, _≤_, _<_, max}
 use native.Mathlib.Omega.{arith}
-use native.Mathlib.Nat.{le-refl, le-antisymm, mul-mod-left, mul-mod-right, mod-one, mul-assoc, mul-zero, zero-div}
-use native.Mathlib.Nat.{mul-le-mul-left, mul-le-mul-right, le-of-mul-le-mul-right, mul-lt-mul-of-pos-right, lt-of-mul-lt-mul-right}
+use native.Mathlib.Nat.{le-refl, mul-mod-left, mul-mod-right, mod-one, mul-assoc, zero-div}
+use native.Mathlib.Nat.{mul-le-mul-left, mul-le-mul-right, mul-lt-mul-of-pos-right, lt-of-mul-lt-mul-right}
 use native.Mathlib.Decide.{ℕ-discrete}
 use Rattle.model.specs.declared.Seconds.{Seconds}
 use Rattle.model.specs.declared.Job.{Job}
-use Rattle.model.specs.Model.{seconds, load, cost, PermittedAfter, lastOf, roundUp, rate, jobLoss, loss}
+use Rattle.model.specs.Model.{seconds, cost, PermittedAfter, lastOf, roundUp, rate, jobLoss, loss}
 use Rattle.model.specs.Valid.{ValidJobs}
-use Rattle.step.specs.Step.{carried, pagesAfter, needAfter}
+use Rattle.step.specs.Step.{load, carried, pagesAfter, needAfter}
 use Rattle.walk.specs.Chains.{chainsBy}
 use Rattle.walk.specs.Walk.{visit, Node, next, walkBy}
 use Rattle.walk.specs.Steps.{PassedOver}
-use Rattle.model.proofs.Rounding.{round-up-le, round-up-above, multiple-is}
+use Rattle.model.proofs.Rounding.{round-up-le, round-up-above, round-up-scaled, multiple-is, factors}
 use Rattle.walk.specs.Laws.{ListsAllowed, Pageless, Unmoved, Settled}
 use Rattle.walk.proofs.Chains.{chains-all}
 use Rattle.step.proofs.Pages.{multiple-trans, quotient-trans}
 use Rattle.walk.proofs.Walk.{atPlan, walk-visits, walk-kept}
-
--- neither factor of a number that is not zero is zero
-factors : (a b : ℕ) {c : ℕ} → 1 ≤ c → c ≡ a * b → (1 ≤ a) × (1 ≤ b)
-factors zero b h e = absurd (omega arith)
-factors (suc a) zero h e = let z = mul-zero (suc a) in absurd (omega arith)
-factors (suc a) (suc b) h e = (omega arith, omega arith)
 
 -- a number above 1 repeats 1; one with a factor repeats the other factor
 pub one-passes : {a : ℕ} → 1 < a → PassedOver a 1
@@ -38,26 +32,6 @@ factor-passes a p first some two reached multiple =
     let is : a ≡ a / p * p = multiple-is a p multiple in
     let more : a / p * 2 ≤ a / p * p = mul-le-mul-left (a / p) two in
     (a / p, reached, omega arith, ap (λ (x : ℕ). x % (a / p)) is ∙ mul-mod-right (a / p) p)
-
--- a fraction is rounded up alike in whatever terms
-round-up-scaled : (a b k : ℕ) → 1 ≤ b → 1 ≤ k → roundUp (a * k) (k * b) ≡ roundUp a b
-round-up-scaled a b k b-pos k-pos = le-antisymm below above
-  where
-    both-pos : 1 ≤ k * b
-    both-pos = let m : 1 * b ≤ k * b = mul-le-mul-right b k-pos in omega arith
-
-    below : roundUp (a * k) (k * b) ≤ roundUp a b
-    below =
-        let q = roundUp a b in
-        let m : a * k ≤ q * b * k = mul-le-mul-right k (round-up-above a b-pos) in
-        round-up-le (a * k) q both-pos .1 (omega arith)
-
-    above : roundUp a b ≤ roundUp (a * k) (k * b)
-    above =
-        let q = roundUp (a * k) (k * b) in
-        let m : a * k ≤ q * (k * b) = round-up-above (a * k) both-pos in
-        let s : a * k ≤ q * b * k = omega arith in
-        round-up-le a q b-pos .1 (le-of-mul-le-mul-right s k-pos)
 
 -- t is a multiple of u, a period
 module _ (u t : Seconds) (pos : 1 ≤ u .0) (t-pos : 1 ≤ t .0) (multiple : t .0 % u .0 ≡ 0) where
@@ -70,20 +44,20 @@ module _ (u t : Seconds) (pos : 1 ≤ u .0) (t-pos : 1 ≤ t .0) (multiple : t .
       (record { above = h .0 .above; below = h .0 .below; multiple = multiple-trans (u .0) (t .0) (s .0) multiple (h .0 .multiple) }, h .1)
 
   -- the pages of u seconds, and as many times over in t seconds: one need, however both are completed
-  pub need-scaled : (pages : ℕ) (js : List Job) (ts : List Seconds) → PermittedAfter t js ts → needAfter (pages * (t .0 / u .0)) t js ts ≡ needAfter pages u js ts
+  pub need-scaled : (greatest pages : ℕ) (js : List Job) (ts : List Seconds) → PermittedAfter t js ts → needAfter greatest (pages * (t .0 / u .0)) t js ts ≡ needAfter greatest pages u js ts
   unfolding needAfter pagesAfter lastOf
-  need-scaled pages [] [] h =
+  need-scaled g pages [] [] h =
       let k = t .0 / u .0 in
       let is : t .0 ≡ k * u .0 = multiple-is (t .0) (u .0) multiple in
       let k-pos : 1 ≤ k = factors k (u .0) t-pos is .0 in
       let e : 3600 * (pages * k) ≡ 3600 * pages * k = omega arith in
       ap₂ roundUp e is ∙ round-up-scaled (3600 * pages) (u .0) k pos k-pos
-  need-scaled pages [] (s ∷ ts) h = absurd h
-  need-scaled pages (j ∷ js) [] h = absurd h
-  need-scaled pages (j ∷ js) (s ∷ ts) h =
+  need-scaled g pages [] (s ∷ ts) h = absurd h
+  need-scaled g pages (j ∷ js) [] h = absurd h
+  need-scaled g pages (j ∷ js) (s ∷ ts) h =
       let whole : s .0 / u .0 ≡ t .0 / u .0 * (s .0 / t .0) = quotient-trans (u .0) (t .0) (s .0) pos multiple (h .0 .multiple) in
       let moved : pages * (t .0 / u .0) * (s .0 / t .0) ≡ pages * (s .0 / u .0) = mul-assoc pages (t .0 / u .0) (s .0 / t .0) ∙ ap (λ (x : ℕ). pages * x) (sym whole) in
-      ap (λ (x : ℕ). roundUp (3600 * pagesAfter (x + load j) s js ts) (lastOf s ts .0)) moved
+      ap (λ (x : ℕ). roundUp (3600 * pagesAfter (max g (j .metadata)) (x + load g j) s js ts) (lastOf s ts .0)) moved
 
 -- without pages every period loses the same
 pub pageless-loss : (j : Job) (t u : Seconds) → cost j ≡ 0 → jobLoss j t ≡ jobLoss j u
@@ -102,20 +76,26 @@ pub record Absorbs {A : Type 0} (Good : A → Type 0) (f : ℕ → ℕ → List 
 
 -- u and t are multiples of the period before, and t of u: a job without pages at u takes every completion that it has at t
 module _ {order : Seconds → Job → List Seconds} (law : ListsAllowed order) {A : Type 0} (f : ℕ → ℕ → List Seconds → A → A) (s : A) (j : Job) (js : List Job) (n : Node) (u t : Seconds) where
-  pub passed-over : ValidJobs js → Pageless j → 1 ≤ n .before .0 → 1 ≤ u .0 → 1 ≤ t .0 → u .0 % n .before .0 ≡ 0 → t .0 % u .0 ≡ 0 → Settled f js (next j n u) s → walkBy order f js (next j n t) s ≡ s
+  pub passed-over : ValidJobs js → Pageless (n .greatest) j → 1 ≤ n .before .0 → 1 ≤ u .0 → 1 ≤ t .0 → u .0 % n .before .0 ≡ 0 → t .0 % u .0 ≡ 0 → Settled f js (next j n u) s → walkBy order f js (next j n t) s ≡ s
   unfolding atPlan
   passed-over v none pos u-pos t-pos u-multiple t-multiple settled = walk-kept law f s js (next j n t) v t-pos stands
     where
+      g : ℕ
+      g = max (n .greatest) (j .metadata)
+
+      own : ℕ
+      own = load (n .greatest) j
+
       need-same : (ts : List Seconds) → PermittedAfter t js ts →
-          needAfter (carried (n .pages) (n .before) t (load j)) t js ts ≡ needAfter (carried (n .pages) (n .before) u (load j)) u js ts
+          needAfter g (carried (n .pages) (n .before) t own) t js ts ≡ needAfter g (carried (n .pages) (n .before) u own) u js ts
       need-same ts h =
           let p = n .before .0 in
           let idle = none .for-need in
           let whole : t .0 / p ≡ u .0 / p * (t .0 / u .0) = quotient-trans p (u .0) (t .0) pos u-multiple t-multiple in
           let moved : n .pages * (u .0 / p) * (t .0 / u .0) ≡ n .pages * (t .0 / p) = mul-assoc (n .pages) (u .0 / p) (t .0 / u .0) ∙ ap (λ (x : ℕ). n .pages * x) (sym whole) in
-          let at-t : n .pages * (t .0 / p) + load j ≡ n .pages * (u .0 / p) * (t .0 / u .0) = omega arith in
-          let at-u : n .pages * (u .0 / p) ≡ n .pages * (u .0 / p) + load j = omega arith in
-          ap (λ (x : ℕ). needAfter x t js ts) at-t ∙ need-scaled u t u-pos t-pos t-multiple (n .pages * (u .0 / p)) js ts h ∙ ap (λ (x : ℕ). needAfter x u js ts) at-u
+          let at-t : n .pages * (t .0 / p) + own ≡ n .pages * (u .0 / p) * (t .0 / u .0) = omega arith in
+          let at-u : n .pages * (u .0 / p) ≡ n .pages * (u .0 / p) + own = omega arith in
+          ap (λ (x : ℕ). needAfter g x t js ts) at-t ∙ need-scaled u t u-pos t-pos t-multiple g (n .pages * (u .0 / p)) js ts h ∙ ap (λ (x : ℕ). needAfter g x u js ts) at-u
 
       stands : (ts : List Seconds) → PermittedAfter t js ts → atPlan f js (next j n t) ts s ≡ s
       stands ts h =
@@ -130,18 +110,18 @@ module _ {A : Type 0} {Good : A → Type 0} {f : ℕ → ℕ → List Seconds �
   visit-stays js n s (ts ∷ tss) g h = visit-stays js n (atPlan f js n ts s) tss (a .good _ _ (n .periods ++ ts) s g) (a .stays _ _ _ _ (n .periods ++ ts) s g h)
 
   visit-settles : (js : List Job) (n : Node) (s : A) (tss : List (List Seconds)) → Good s → (ts : List Seconds) → List·Memᴰ ts tss →
-      Unmoved f (visit (atPlan f js n) s tss) (needAfter (n .pages) (n .before) js ts) (n .lost + loss js ts)
+      Unmoved f (visit (atPlan f js n) s tss) (needAfter (n .greatest) (n .pages) (n .before) js ts) (n .lost + loss js ts)
   unfolding visit atPlan
   visit-settles js n s [] g ts m = absurd (List·Memᴰ·not-nil m)
   visit-settles js n s (us ∷ tss) g ts m = ⊎-elim here (λ k. visit-settles js n (atPlan f js n us s) tss next-good ts k) (List·Memᴰ·cases-cons m)
     where
       next-good : Good (atPlan f js n us s)
-      next-good = a .good (needAfter (n .pages) (n .before) js us) (n .lost + loss js us) (n .periods ++ us) s g
+      next-good = a .good (needAfter (n .greatest) (n .pages) (n .before) js us) (n .lost + loss js us) (n .periods ++ us) s g
 
-      at : Unmoved f (atPlan f js n us s) (needAfter (n .pages) (n .before) js us) (n .lost + loss js us)
-      at = a .after (needAfter (n .pages) (n .before) js us) (n .lost + loss js us) (n .periods ++ us) s g
+      at : Unmoved f (atPlan f js n us s) (needAfter (n .greatest) (n .pages) (n .before) js us) (n .lost + loss js us)
+      at = a .after (needAfter (n .greatest) (n .pages) (n .before) js us) (n .lost + loss js us) (n .periods ++ us) s g
 
-      here : ts ≡ us → Unmoved f (visit (atPlan f js n) (atPlan f js n us s) tss) (needAfter (n .pages) (n .before) js ts) (n .lost + loss js ts)
+      here : ts ≡ us → Unmoved f (visit (atPlan f js n) (atPlan f js n us s) tss) (needAfter (n .greatest) (n .pages) (n .before) js ts) (n .lost + loss js ts)
       here e = rw e (visit-stays js n (atPlan f js n us s) tss next-good at)
 
   module _ {order : Seconds → Job → List Seconds} (law : ListsAllowed order) (js : List Job) (n : Node) (s : A) (g : Good s) where
@@ -152,7 +132,7 @@ module _ {A : Type 0} {Good : A → Type 0} {f : ℕ → ℕ → List Seconds �
     -- a walk settles its node
     pub walk-settles : ValidJobs js → 1 ≤ n .before .0 → Settled f js n (walkBy order f js n s)
     walk-settles v pos ts h =
-        subst (λ (r : A). Unmoved f r (needAfter (n .pages) (n .before) js ts) (n .lost + loss js ts)) (sym (walk-visits order f js n s))
+        subst (λ (r : A). Unmoved f r (needAfter (n .greatest) (n .pages) (n .before) js ts) (n .lost + loss js ts)) (sym (walk-visits order f js n s))
         (visit-settles js n s (chainsBy order (n .before) js) g ts (chains-all law js ts v pos h))
 
 -- Before the turn of t in the loop over a job's multiples: each one before t is settled.
@@ -191,7 +171,7 @@ module _ {A : Type 0} (f : ℕ → ℕ → List Seconds → A → A) (j : Job) (
         which (no other) = earlier other
 
     -- a multiplier that repeats an earlier one, for a job without pages
-    pub settled-passes : Pageless j → PassedOver (t / n .before .0) (roundUp (j .lo .0) (n .before .0)) → {order : Seconds → Job → List Seconds} → ListsAllowed order → walkBy order f js (next j n (seconds t)) s ≡ s
+    pub settled-passes : Pageless (n .greatest) j → PassedOver (t / n .before .0) (roundUp (j .lo .0) (n .before .0)) → {order : Seconds → Job → List Seconds} → ListsAllowed order → walkBy order f js (next j n (seconds t)) s ≡ s
     settled-passes none r law =
         let p = n .before .0 in
         let a = t / p in

@@ -2,20 +2,20 @@
 -- Assumes nothing.
 use mathlib.Core.Path.{_≡_, refl, sym, _∙_, ap, ap₂}
 use mathlib.Core.List.{List, [], _∷_, _++_, map, flatMap, append-nil, List·Memᴰ, List·Memᴰ·head, List·Memᴰ·tail}
-use Prim.Native.Nat.{ℕ, _+_, _*_, _/_, _≤_, _<_}
+use Prim.Native.Nat.{ℕ, _+_, _*_, _/_, _≤_, _<_, max}
 use native.Mathlib.Omega.{arith}
 use native.Mathlib.Nat.{le-refl, le-trans, add-assoc, add-zero, zero-add}
 use lib.Seq.{append-snoc}
 use Rattle.model.specs.declared.Seconds.{Seconds}
 use Rattle.model.specs.declared.Job.{Job}
-use Rattle.model.specs.Model.{seconds, load, PermittedAfter, lastOf, roundUp, need, jobLoss, loss}
+use Rattle.model.specs.Model.{seconds, PermittedAfter, lastOf, roundUp, need, jobLoss, loss}
 use Rattle.model.specs.Valid.{ValidJobs}
-use Rattle.step.specs.Step.{carried, pagesAfter, needAfter}
+use Rattle.step.specs.Step.{load, carried, pagesAfter, needAfter}
 use Rattle.walk.specs.Chains.{risingFrom, chainsBy}
 use Rattle.walk.specs.Walk.{lossFloor, needFloor, visit, Node, start, next, walkBy}
 use Rattle.walk.specs.Laws.{ListsAllowed, Keeps}
 use Rattle.walk.proofs.Chains.{chains-only, rising-from}
-use Rattle.step.proofs.Pages.{need-is}
+use Rattle.step.proofs.Shared.{need-is}
 use Rattle.walk.proofs.Floors.{job-loss-mono, loss-floor-mono, loss-floor, need-floor, out-of-reach}
 
 module _ {A B : Type 0} where
@@ -51,14 +51,14 @@ module _ {A B C : Type 0} where
 
 -- what the update makes of the plan that completes a node by these periods
 unfoldable pub atPlan : {A : Type 0} → (ℕ → ℕ → List Seconds → A → A) → List Job → Node → List Seconds → A → A
-atPlan f js n ts = f (needAfter (n .pages) (n .before) js ts) (n .lost + loss js ts) (n .periods ++ ts)
+atPlan f js n ts = f (needAfter (n .greatest) (n .pages) (n .before) js ts) (n .lost + loss js ts) (n .periods ++ ts)
 
 module _ {A : Type 0} (order : Seconds → Job → List Seconds) (f : ℕ → ℕ → List Seconds → A → A) where
   -- the plan that completes a node by t and then ts completes the node after t by ts
   plan-next : (j : Job) (js : List Job) (n : Node) (t : Seconds) (ts : List Seconds) (a : A) → atPlan f js (next j n t) ts a ≡ atPlan f (j ∷ js) n (t ∷ ts) a
   unfolding atPlan needAfter pagesAfter lastOf loss
   plan-next j js n t ts a =
-      ap₂ (λ (l : ℕ) (us : List Seconds). f (needAfter (carried (n .pages) (n .before) t (load j)) t js ts) l us a) (add-assoc (n .lost) (jobLoss j t) (loss js ts)) (append-snoc (n .periods) t ts)
+      ap₂ (λ (l : ℕ) (us : List Seconds). f (needAfter (max (n .greatest) (j .metadata)) (carried (n .pages) (n .before) t (load (n .greatest) j)) t js ts) l us a) (add-assoc (n .lost) (jobLoss j t) (loss js ts)) (append-snoc (n .periods) t ts)
 
   -- the walk from a node on is the visit of the chains from there on
   pub walk-visits : (js : List Job) (n : Node) (acc : A) → walkBy order f js n acc ≡ visit (atPlan f js n) acc (chainsBy order (n .before) js)
@@ -77,10 +77,10 @@ module _ {order : Seconds → Job → List Seconds} (law : ListsAllowed order) {
     walk-kept h = walk-visits order f js n acc ∙ visit-kept (atPlan f js n) acc (chainsBy order (n .before) js) (λ ts m. h ts (chains-only law js ts v pos m))
 
     -- the cuts by need floor and by loss floor
-    pub walk-cut : (k l : ℕ) → k ≤ needFloor (n .pages) (n .before) js → l ≤ n .lost + lossFloor js (n .before .0) → Keeps f acc k l → walkBy order f js n acc ≡ acc
+    pub walk-cut : (k l : ℕ) → k ≤ needFloor (n .greatest) (n .pages) (n .before) js → l ≤ n .lost + lossFloor js (n .before .0) → Keeps f acc k l → walkBy order f js n acc ≡ acc
     unfolding atPlan
     walk-cut k l k≤ l≤ keeps = walk-kept (λ ts h. keeps _ _ _
-        (le-trans k≤ (need-floor (n .pages) (n .before) js ts v pos h))
+        (le-trans k≤ (need-floor (n .greatest) (n .pages) (n .before) js ts v pos h))
         (let floor = loss-floor (n .before) js ts v h in omega arith))
 
     -- the cut by reach

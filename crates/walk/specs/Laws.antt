@@ -5,8 +5,8 @@ use mathlib.Core.List.{List, List·Memᴰ}
 use Prim.Native.Nat.{ℕ, _+_, _≤_, _<_}
 use Rattle.model.specs.declared.Seconds.{Seconds}
 use Rattle.model.specs.declared.Job.{Job}
-use Rattle.model.specs.Model.{load, cost, Allowed, PermittedAfter, loss, Rising, NotAfter}
-use Rattle.step.specs.Step.{needAfter}
+use Rattle.model.specs.Model.{cost, Allowed, PermittedAfter, loss, Rising, NotAfter}
+use Rattle.step.specs.Step.{load, needAfter}
 use Rattle.walk.specs.Walk.{Node}
 
 -- Strictly earlier in the order of lists.
@@ -27,9 +27,9 @@ pub record ListsAllowed (periods : Seconds → Job → List Seconds) : Type 0 wh
   pub only : {before : Seconds} {j : Job} {t : Seconds} → 1 ≤ before .0 → List·Memᴰ t (periods before j) → Allowed j before t
   pub all : {before : Seconds} {j : Job} {t : Seconds} → 1 ≤ before .0 → Allowed j before t → List·Memᴰ t (periods before j)
 
--- A job without pages, for need and for loss.
-pub record Pageless (j : Job) : Type 0 where
-  pub for-need : load j ≡ 0
+-- A job without pages: it adds nothing to need, where `greatest` is the greatest metadata before it, and nothing to loss.
+pub record Pageless (greatest : ℕ) (j : Job) : Type 0 where
+  pub for-need : load greatest j ≡ 0
   pub for-loss : cost j ≡ 0
 
 module _ {A : Type 0} (f : ℕ → ℕ → List Seconds → A → A) where
@@ -43,4 +43,4 @@ module _ {A : Type 0} (f : ℕ → ℕ → List Seconds → A → A) where
 
   -- No plan that completes the node changes what is had, nor any of the same need and loss.
   abbrev pub Settled : List Job → Node → A → Type 0
-  Settled js n s = (ts : List Seconds) → PermittedAfter (n .before) js ts → Unmoved s (needAfter (n .pages) (n .before) js ts) (n .lost + loss js ts)
+  Settled js n s = (ts : List Seconds) → PermittedAfter (n .before) js ts → Unmoved s (needAfter (n .greatest) (n .pages) (n .before) js ts) (n .lost + loss js ts)

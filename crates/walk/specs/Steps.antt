@@ -56,21 +56,23 @@ pub record Repeats (pages : List ℕ) (i : ℕ) (step first t : Seconds) : Type 
 module _ (spans pages rates stiffnesses : List ℕ) where
   -- Some jobs are so held, and t is a period.
   pub record Later (i n : ℕ) (t : Seconds) : Type 0 where
+    pub greatest : ℕ
     pub js : List Job
-    pub held : Held spans pages rates stiffnesses i n js
+    pub held : Held spans pages rates stiffnesses i n greatest js
     pub from : 1 ≤ t .0
 
   -- Some jobs are so held, and a node of i jobs stands before them.
   pub record Ready (i n : ℕ) (t : Seconds) (written lost : ℕ) : Type 0 where
+    pub greatest : ℕ
     pub js : List Job
-    pub held : Held spans pages rates stiffnesses i n js
+    pub held : Held spans pages rates stiffnesses i n greatest js
     pub from : 1 ≤ t .0
     pub to : t .0 ≤ 3600
     pub bounded : Bounded i t written lost
 
   -- r is the loss floor of the jobs from place i on.
   abbrev pub IsLossFloor : ℕ → ℕ → Seconds → ℕ → Type 0
-  IsLossFloor i n t r = (js : List Job) → Held spans pages rates stiffnesses i n js → r ≡ lossFloor js (t .0)
+  IsLossFloor i n t r = (greatest : ℕ) (js : List Job) → Held spans pages rates stiffnesses i n greatest js → r ≡ lossFloor js (t .0)
 
 -- A node of i jobs stands before some jobs; what else than their intervals and least needs is held of them does not matter here.
 pub record ReadyForCut (spans rates : List ℕ) (i n : ℕ) (t : Seconds) (written : ℕ) : Type 0 where
@@ -86,10 +88,10 @@ module _ {A : Type 0} (f : ℕ → ℕ → List Seconds → A → A) where
   -- The walk from a node of i jobs on would leave what is had; `floor` is the node's loss floor.
   abbrev pub ChangesNothing : List ℕ → List ℕ → ℕ → ℕ → Seconds → ℕ → ℕ → A → Type 0
   ChangesNothing spans rates i n t written floor acc =
-      (pages stiffnesses : List ℕ) (js : List Job) (lost : ℕ) (ts : List Seconds) → Held spans pages rates stiffnesses i n js → floor ≡ lost + lossFloor js (t .0) →
-      walk f js (node t written lost ts) acc ≡ acc
+      (pages stiffnesses : List ℕ) (greatest : ℕ) (js : List Job) (lost : ℕ) (ts : List Seconds) → Held spans pages rates stiffnesses i n greatest js → floor ≡ lost + lossFloor js (t .0) →
+      walk f js (node t greatest written lost ts) acc ≡ acc
 
   -- What that walk leaves: the periods before place i, and what it makes of what was had.
   pub record Walked (spans pages rates stiffnesses : List ℕ) (i n : ℕ) (t : Seconds) (written lost : ℕ) (ps ps′ : List ℕ) (acc acc′ : A) : Type 0 where
     pub before : take i ps′ ≡ take i ps
-    pub is : (js : List Job) → Held spans pages rates stiffnesses i n js → acc′ ≡ walk f js (node t written lost (periodsIn i ps)) acc
+    pub is : (greatest : ℕ) (js : List Job) → Held spans pages rates stiffnesses i n greatest js → acc′ ≡ walk f js (node t greatest written lost (periodsIn i ps)) acc

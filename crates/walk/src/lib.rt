@@ -99,8 +99,8 @@ pub fn reaches(spans: &[u32; 16], i: usize, n: usize, t: Seconds) -> bool
     true
 }
 
-// Whether job i, which may try the multiples of `step` from `first` on, can be passed over at t: it has no pages, so a smaller
-// one of these that divides t takes every completion at the same need and loss.
+// Whether job i, which may try the multiples of `step` from `first` on, can be passed over at t: it has no pages, neither
+// for need nor for loss, so a smaller one of these that divides t takes every completion at the same need and loss.
 pub fn repeats(pages: &[u32; 16], i: usize, step: Seconds, first: Seconds, t: Seconds) -> bool
     requires { ⌜ i < 8 ⌝ }
     requires { ⌜ 1 ≤ step .0 ⌝ }

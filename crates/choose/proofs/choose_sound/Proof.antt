@@ -21,7 +21,7 @@ pages-of-requires : tie.Need-pages-of-requires
 pages-of-requires c κs = search needs
 
 rates-of-requires : tie.Need-rates-of-requires
-rates-of-requires c κs = search needs
+rates-of-requires c κs = (c .before .before .before .before .pre, c .before .pages-of .ensures)
 
 stiffnesses-of-requires : tie.Need-stiffnesses-of-requires
 stiffnesses-of-requires c κs = search needs
@@ -31,11 +31,13 @@ array-write-best c = search needs
 
 -- the arrays hold the jobs
 held : (c : tie.After-stiffnesses-of) →
-    Held (c .before .before .before .spans-of .result) (c .before .before .pages-of .result) (c .before .rates-of .result) (c .stiffnesses-of .result)
-    0 (c .before .before .before .before .before .args .p .n) (jobsOf (c .before .before .before .before .before .args .p))
+    let a = c .before .before .before in
+    let s = a .before .before .before in
+    Held (a .before .spans-of .result) (a .pages-of .result) (c .before .rates-of .result) (c .stiffnesses-of .result) 0 (s .args .p .n) 0 (jobsOf (s .args .p))
 held c =
-    let s = c .before .before .before .before .before in
-    all-held (s .pre) (c .before .before .before .spans-of .ensures) (c .before .before .pages-of .ensures) (c .before .rates-of .ensures) (c .stiffnesses-of .ensures)
+    let a = c .before .before .before in
+    let s = a .before .before .before in
+    all-held (s .pre) (a .before .spans-of .ensures) (a .pages-of .ensures) (c .before .rates-of .ensures) (c .stiffnesses-of .ensures)
 
 find-best-requires : tie.Need-find-best-requires
 find-best-requires c κs =
@@ -49,7 +51,7 @@ plan-requires : tie.Need-plan-requires
 plan-requires c κs =
     let found = c .before .before in
     let made = found .before .before .before .before .before .before .before in
-    let s = made .before .before .before .before .before in
+    let s = made .before .before .before .before .before .before in
     plan-small (held made) (found .find-best .ensures) refl (omega (arith, s .good)) (c .before .if1 .taken)
 
 returns : tie.Need-returns

@@ -12,16 +12,17 @@ use Rattle.model.specs.Model.{seconds, noJob, Allowed}
 use Rattle.model.specs.Valid.{ValidJob}
 use Rattle.model.proofs.Allowing.{allowed}
 use Rattle.model.proofs.Validity.{job-valid-at}
+use Rattle.step.proofs.Bounds.{load-bound}
 use Rattle.step.proofs.Along.{along-fits, along-loss-fits}
 use Rattle.score.proofs.Turns.{JobsLeft, first-jobs, period-out, next-job, all-reckoned}
 use Rattle.score.proofs.reckon.Statement.{statement}
 use Rattle.score.proofs.reckon.Tie as tie
 
 abbrev Inv-loop : tie.InvT-loop
-Inv-loop p periods n before₀ written₀ lost₀ k₀ before written lost k = JobsLeft p periods before written lost k
+Inv-loop p periods n before₀ greatest₀ written₀ lost₀ k₀ before greatest written lost k = JobsLeft p periods before greatest written lost k
 
 abbrev μ-loop : tie.MeasureT-loop
-μ-loop p periods n before₀ written₀ lost₀ k₀ before written lost k = n - k
+μ-loop p periods n before₀ greatest₀ written₀ lost₀ k₀ before greatest written lost k = n - k
 
 -- the job and the period at hand
 abbrev jobHere : tie.In-loop Inv-loop μ-loop → Job
@@ -63,11 +64,11 @@ allowed-requires c κs =
     let i = c .before .before in
     i .before .loop .inv .along .from
 
-add-t23 : tie.Need-add-t23 Inv-loop μ-loop
-add-t23 c = search needs
+add-t24 : tie.Need-add-t24 Inv-loop μ-loop
+add-t24 c = search needs
 
-cast-t24 : tie.Need-cast-t24 Inv-loop μ-loop
-cast-t24 c = search needs
+cast-t25 : tie.Need-cast-t25 Inv-loop μ-loop
+cast-t25 c = search needs
 
 returns : tie.Need-returns Inv-loop μ-loop
 returns c =
@@ -77,21 +78,27 @@ returns c =
 fastest-rate-requires : tie.Need-fastest-rate-requires Inv-loop μ-loop
 fastest-rate-requires c κs = valid (c .before .before .before .before)
 
-written-with-requires : tie.Need-written-with-requires Inv-loop μ-loop
-written-with-requires c κs =
-    let e = c .before in
+need-pages-requires : tie.Need-need-pages-requires Inv-loop μ-loop
+need-pages-requires c κs = valid (c .before .before .before .before .before)
+
+carry-requires : tie.Need-carry-requires Inv-loop μ-loop
+carry-requires c κs =
+    let e = c .before .before in
     let i = turnOf e in
-    (valid i, along-fits (i .before .loop .inv .along), omega (arith, passed e, valid i))
+    (along-fits (i .before .loop .inv .along), omega (arith, passed e, valid i, i .before .loop .inv .along .to), rw (c .need-pages .ensures) (load-bound _ _ (valid i)))
+
+greater-requires : tie.Need-greater-requires Inv-loop μ-loop
+greater-requires c κs = search needs
 
 loss-with-requires : tie.Need-loss-with-requires Inv-loop μ-loop
 loss-with-requires c κs =
-    let e = c .before .before in
+    let e = c .before .before .before .before in
     let i = turnOf e in
-    (valid i, omega (arith, passed e, valid i), c .before .fastest-rate .ensures)
+    (valid i, omega (arith, passed e, valid i), c .before .before .before .fastest-rate .ensures)
 
 add-lost : tie.Need-add-lost Inv-loop μ-loop
 add-lost c =
-    let i = c .before .before .before .before .before .before .before in
+    let i = turnOf (c .before .before .before .before .before) in
     rw (c .loss-with .ensures) (record { fits = along-loss-fits (i .before .loop .inv .along) (i .before .before .pre) (i .loop-test .taken) _ })
 
 add-k : tie.Need-add-k Inv-loop μ-loop
@@ -102,9 +109,9 @@ loop-less c = search needs
 
 loop-again : tie.Need-loop-again Inv-loop μ-loop
 loop-again c =
-    let e = c .before .before .before in
+    let e = c .before .before .before .before .before in
     let i = turnOf e in
-    rw (c .before .written-with .ensures, c .loss-with .ensures) (next-job (i .before .loop .inv) (i .loop-test .taken) (i .before .before .pre) (passed e))
+    rw (c .before .greater .ensures, c .before .before .carry .ensures, c .before .before .before .need-pages .ensures, c .loss-with .ensures) (next-job (i .before .loop .inv) (i .loop-test .taken) (i .before .before .pre) (passed e))
 
 need-of-requires : tie.Need-need-of-requires Inv-loop μ-loop
 need-of-requires c κs = along-fits (c .before .loop .inv .along)
@@ -127,11 +134,13 @@ reckon-spec =
     mul-t
     array-copy-out-t
     allowed-requires
-    add-t23
-    cast-t24
+    add-t24
+    cast-t25
     returns
     fastest-rate-requires
-    written-with-requires
+    need-pages-requires
+    carry-requires
+    greater-requires
     loss-with-requires
     add-lost
     add-k

@@ -1,6 +1,6 @@
 -- `table_check::first_bad_row` meets its contract: before each turn the rows, and a row's places, that were passed are right.
 -- Assumes nothing.
-use Prim.Native.Nat.{_-_, zero-le}
+use Prim.Native.Nat.{_-_, _<_, zero-le}
 use mathlib.Core.Path.{_≡_, _∙_, sym, ap}
 use mathlib.Core.Bool.{true}
 use native.Mathlib.Omega.{arith}
@@ -14,6 +14,8 @@ use Rattle.model.specs.Testing.{allows}
 use Rattle.model.specs.Valid.{Valid}
 use Rattle.model.proofs.Validity.{job-valid-at}
 use Rattle.model.proofs.Allowing.{allowed}
+use Rattle.step.specs.Step.{loadAt}
+use Rattle.step.proofs.Bounds.{load-bound}
 use Rattle.step.proofs.Along.{along-fits, along-loss-fits}
 use Rattle.table_check.proofs.Turns.{RowsLeft, PlacesLeft, Scanned, first-rows, first-places, place-off, next-place, next-zero, scanned-row}
 use Rattle.table_check.proofs.Turns.{no-more, place-fails, zero-fails, start-fails, order-fails, next-row}
@@ -21,23 +23,23 @@ use Rattle.table_check.proofs.first_bad_row.Statement.{statement}
 use Rattle.table_check.proofs.first_bad_row.Tie as tie
 
 abbrev Inv-loop : tie.InvT-loop
-Inv-loop table p n rates rows start-before loss-before k start periods before₀ written₀ lost₀ i₀ before written lost i = PlacesLeft p periods before written lost i
+Inv-loop table p n pages rates rows start-before loss-before k start periods before₀ written₀ lost₀ i₀ before written lost i = PlacesLeft p periods before written lost i
 
 abbrev μ-loop : tie.MeasureT-loop
-μ-loop table p n rates rows start-before loss-before k start periods before₀ written₀ lost₀ i₀ before written lost i = 8 - i
+μ-loop table p n pages rates rows start-before loss-before k start periods before₀ written₀ lost₀ i₀ before written lost i = 8 - i
 
 abbrev Inv-rows : tie.InvT-rows
-Inv-rows table p n rates rows start-before₀ loss-before₀ k₀ start-before loss-before k = RowsLeft p table start-before loss-before k
+Inv-rows table p n pages rates rows start-before₀ loss-before₀ k₀ start-before loss-before k = RowsLeft p table start-before loss-before k
 
 abbrev μ-rows : tie.MeasureT-rows
-μ-rows table p n rates rows start-before₀ loss-before₀ k₀ start-before loss-before k = rows - k
+μ-rows table p n pages rates rows start-before₀ loss-before₀ k₀ start-before loss-before k = rows - k
 
-valid : (c : tie.At-loop Inv-loop μ-loop Inv-rows μ-rows) → Valid (c .before .before .before .before .before .before .before .before .args .t1)
-valid c = c .before .before .before .before .before .before .before .before .pre
+valid : (c : tie.At-loop Inv-loop μ-loop Inv-rows μ-rows) → Valid (c .before .before .before .before .before .before .before .before .before .before .args .t1)
+valid c = c .before .before .before .before .before .before .before .before .before .before .pre
 
 -- the job and the period at hand
 abbrev jobHere : tie.In-loop Inv-loop μ-loop Inv-rows μ-rows → Job
-jobHere c = getD (c .before .before .before .before .before .before .before .before .before .args .t1 .jobs) (c .before .loop .i) noJob
+jobHere c = getD (c .before .before .before .before .before .before .before .before .before .before .before .args .t1 .jobs) (c .before .loop .i) noJob
 
 abbrev periodHere : tie.In-loop Inv-loop μ-loop Inv-rows μ-rows → Seconds
 periodHere c = getD (c .before .before .before .before .row-at .result .periods) (c .before .loop .i) (seconds 0)
@@ -52,7 +54,7 @@ passed c = sym (c .before .allowed .ensures) ∙ not-false _ (c .if4 .left)
 scanned : (c : tie.After-need-of Inv-loop μ-loop Inv-rows μ-rows) →
     let row = c .before .before .before .before .before in
     let turn = row .before .before in
-    let start = turn .before .before .before in
+    let start = turn .before .before .before .before .before in
     Scanned (start .args .t1) (start .args .table .now) (turn .rows .k) (row .row-at .result) (c .need-of .result) (c .before .before .loop .lost)
 scanned c =
     let l = c .before .before in
@@ -61,8 +63,11 @@ scanned c =
 cast-n : tie.Need-cast-n Inv-loop μ-loop Inv-rows μ-rows
 cast-n c = search needs
 
+pages-of-requires : tie.Need-pages-of-requires Inv-loop μ-loop Inv-rows μ-rows
+pages-of-requires c κs = search needs
+
 rates-of-requires : tie.Need-rates-of-requires Inv-loop μ-loop Inv-rows μ-rows
-rates-of-requires c κs = search needs
+rates-of-requires c κs = (c .before .before .before .pre, c .before .pages-of .ensures)
 
 rows-holds : tie.Need-rows-holds Inv-loop μ-loop Inv-rows μ-rows
 rows-holds c = first-rows _ _ _ _
@@ -113,12 +118,24 @@ mul-fastest c = search needs
 array-read-fastest : tie.Need-array-read-fastest Inv-loop μ-loop Inv-rows μ-rows
 array-read-fastest c = search needs
 
-written-with-requires : tie.Need-written-with-requires Inv-loop μ-loop Inv-rows μ-rows
-written-with-requires c κs =
+mul-carry : tie.Need-mul-carry Inv-loop μ-loop Inv-rows μ-rows
+mul-carry c = search needs
+
+array-read-carry : tie.Need-array-read-carry Inv-loop μ-loop Inv-rows μ-rows
+array-read-carry c = search needs
+
+-- the pages for need of the job at hand
+own : (c : tie.At-loop Inv-loop μ-loop Inv-rows μ-rows) →
+    let a = c .before .before .before .before .before .before .before .before in
+    c .loop .i < a .before .before .args .t1 .n → getD (a .pages-of .result) (c .loop .i) 0 ≡ loadAt (a .before .before .args .t1) (c .loop .i)
+own c less = c .before .before .before .before .before .before .before .before .pages-of .ensures .front (c .loop .i) zero-le less
+
+carry-requires : tie.Need-carry-requires Inv-loop μ-loop Inv-rows μ-rows
+carry-requires c κs =
     let e = c .before .before .before in
     let l = e .before .before .before in
     let j = job-valid-at _ (l .loop .i) (valid l) (e .if2 .left) in
-    (j, along-fits (l .loop .inv .along), omega (arith, allowed _ (l .loop .before) _ (passed c) .below, j .hi-to))
+    (along-fits (l .loop .inv .along), omega (arith, allowed _ (l .loop .before) _ (passed c) .below, j .hi-to), rw (own l (e .if2 .left)) (load-bound _ _ j))
 
 loss-with-requires : tie.Need-loss-with-requires Inv-loop μ-loop Inv-rows μ-rows
 loss-with-requires c κs =
@@ -147,7 +164,7 @@ loop-again-2 : tie.Need-loop-again-2 Inv-loop μ-loop Inv-rows μ-rows
 loop-again-2 c =
     let e = c .before .before .before .before .before in
     let l = e .before .before .before in
-    rw (c .before .written-with .ensures, c .loss-with .ensures) (next-place (valid l) (l .loop .inv) (e .if2 .left) (passed (c .before .before)))
+    rw (c .before .carry .ensures, own l (e .if2 .left), c .loss-with .ensures) (next-place (valid l) (l .loop .inv) (e .if2 .left) (passed (c .before .before)))
 
 need-of-requires : tie.Need-need-of-requires Inv-loop μ-loop Inv-rows μ-rows
 need-of-requires c κs =
@@ -214,6 +231,7 @@ first-bad-row-spec =
     Inv-rows
     μ-rows
     cast-n
+    pages-of-requires
     rates-of-requires
     rows-holds
     row-at-requires
@@ -230,7 +248,9 @@ first-bad-row-spec =
     add-bad-2
     mul-fastest
     array-read-fastest
-    written-with-requires
+    mul-carry
+    array-read-carry
+    carry-requires
     loss-with-requires
     add-lost
     add-i-2

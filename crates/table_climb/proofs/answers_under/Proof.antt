@@ -14,7 +14,7 @@ pages-of-requires : tie.Need-pages-of-requires
 pages-of-requires c κs = search needs
 
 rates-of-requires : tie.Need-rates-of-requires
-rates-of-requires c κs = search needs
+rates-of-requires c κs = (c .before .before .before .pre .0, c .before .pages-of .ensures)
 
 stiffnesses-of-requires : tie.Need-stiffnesses-of-requires
 stiffnesses-of-requires c κs = search needs
@@ -26,7 +26,7 @@ next-answers-requires : tie.Need-next-answers-requires
 next-answers-requires c κs =
     let w = c .before .before .before .before .before .before in
     let r = w .before in
-    let a = r .before in
+    let a = r .before .before in
     let s = a .before in
     (ready-start (all-held (s .before .pre .0) (s .spans-of .ensures) (a .pages-of .ensures) (r .rates-of .ensures) (w .stiffnesses-of .ensures)), s .before .pre .1)
 
@@ -34,7 +34,7 @@ returns : tie.Need-returns
 returns c =
     let w = c .before .before .before .before .before .before .before in
     let r = w .before in
-    let a = r .before in
+    let a = r .before .before in
     let s = a .before in
     collected-answers (s .before .pre .0) (all-held (s .before .pre .0) (s .spans-of .ensures) (a .pages-of .ensures) (r .rates-of .ensures) (w .stiffnesses-of .ensures)) (c .next-answers .ensures)
 

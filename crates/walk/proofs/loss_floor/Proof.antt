@@ -71,7 +71,7 @@ returns : tie.Need-returns Inv-loop μ-loop
 returns c =
     let s = c .before .loop in
     let done : s .k ≡ c .before .before .args .i = omega arith in
-    λ js h. s .inv .is js (rw done h)
+    λ g js h. s .inv .is g js (rw done h)
 
 pub loss-floor-spec : {M : Type 1} → statement M
 loss-floor-spec =
