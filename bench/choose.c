@@ -7,7 +7,6 @@
 
 #include "charopleth.h"
 #include "heavy.h"
-#include "reference.h"
 #include "timing.h"
 #include "walk.h"
 
@@ -54,7 +53,7 @@ static void measure(const char *name, const uint32_t jobs[], uint32_t budget, in
         failed = 1;
     if (enumerated) {
         double start = now();
-        uint64_t slow = reference_choose(8, jobs, budget, all, UINT64_MAX - 1);
+        uint64_t slow = walk_every(8, jobs, budget, all);
         double faster = (now() - start) / each;
         printf("  1/%.0f of enumeration", faster);
         if (slow != result || memcmp(have, all, sizeof have) != 0 || faster < least_of_enumeration)

@@ -55,15 +55,21 @@ static int repeats(const struct walk *w, uint32_t i, uint32_t a, uint32_t first)
 
 static uint32_t need_of(uint64_t pages, uint32_t t) { return (uint32_t)((3600 * pages + (t - 1)) / t); }
 
+/* A plan for all jobs: it is kept where it fits and is better than the best so far. */
+static void offer(struct walk *w, uint32_t last, uint64_t pages, uint64_t lost)
+{
+    uint32_t need = need_of(pages, last);
+    if (need <= w->budget && (lost < w->loss || (lost == w->loss && need < w->need))) {
+        memcpy(w->best, w->periods, sizeof w->best);
+        w->need = need;
+        w->loss = lost;
+    }
+}
+
 static void find_best(struct walk *w, uint32_t i, uint32_t step, uint64_t pages, uint64_t lost)
 {
     if (i == w->n) {
-        uint32_t need = need_of(pages, step);
-        if (need <= w->budget && (lost < w->loss || (lost == w->loss && need < w->need))) {
-            memcpy(w->best, w->periods, sizeof w->best);
-            w->need = need;
-            w->loss = lost;
-        }
+        offer(w, step, pages, lost);
         return;
     }
     uint32_t first = (w->lo[i] + step - 1) / step;
@@ -80,6 +86,18 @@ static void find_best(struct walk *w, uint32_t i, uint32_t step, uint64_t pages,
             continue;
         w->periods[i] = t;
         find_best(w, i + 1, t, more, here);
+    }
+}
+
+static void try_every(struct walk *w, uint32_t i, uint32_t step, uint64_t pages, uint64_t lost)
+{
+    if (i == w->n) {
+        offer(w, step, pages, lost);
+        return;
+    }
+    for (uint32_t t = (w->lo[i] + step - 1) / step * step; t <= w->hi[i]; t += step) {
+        w->periods[i] = t;
+        try_every(w, i + 1, t, pages * (t / step) + w->need_pages[i], lost + job_loss(w, i, t));
     }
 }
 
@@ -113,13 +131,14 @@ static struct walk prepared(uint32_t n, const uint32_t jobs[], uint32_t budget)
     return w;
 }
 
-uint64_t walk_choose(uint32_t n, const uint32_t jobs[], uint32_t budget, uint64_t answer[])
+static uint64_t choose(uint32_t n, const uint32_t jobs[], uint32_t budget, uint64_t answer[],
+                       void (*walk_through)(struct walk *, uint32_t, uint32_t, uint64_t, uint64_t))
 {
     uint64_t verdict = reference_judge(n, jobs);
     if (verdict != 0)
         return verdict;
     struct walk w = prepared(n, jobs, budget);
-    find_best(&w, 0, 1, 0, 0);
+    walk_through(&w, 0, 1, 0, 0);
     if (w.loss == UINT64_MAX) {
         uint32_t least = least_need(&w, 0, 1, 0, UINT32_MAX);
         return least == UINT32_MAX ? refusal(9, 0) : refusal(10, least);
@@ -130,6 +149,10 @@ uint64_t walk_choose(uint32_t n, const uint32_t jobs[], uint32_t budget, uint64_
         answer[CHAROPLETH_PERIODS + k] = k < n ? w.best[k] : 0;
     return 0;
 }
+
+uint64_t walk_choose(uint32_t n, const uint32_t jobs[], uint32_t budget, uint64_t answer[]) { return choose(n, jobs, budget, answer, find_best); }
+
+uint64_t walk_every(uint32_t n, const uint32_t jobs[], uint32_t budget, uint64_t answer[]) { return choose(n, jobs, budget, answer, try_every); }
 
 /* Up to MOST next answers, in rising loss and falling need: the loss of each, and its row of the table as two words. Nothing
  * at or above the bound enters any more. */
