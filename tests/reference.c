@@ -111,15 +111,36 @@ struct search {
     uint64_t listed, space;
 };
 
-/* 3,600 c / T summed over the common denominator Tn, rounded up once. */
+/* What the drive writes at one moment: the data of every job that runs, and metadata once, as much as the largest of theirs. */
+static uint64_t pages_at(const struct search *s, uint32_t moment)
+{
+    uint64_t data = 0, metadata = 0;
+    for (uint32_t i = 0; i < s->n; i++) {
+        if (moment % s->periods[i] != 0)
+            continue;
+        struct job job = get_job(s->jobs, i);
+        data += job.data;
+        if (job.metadata > metadata)
+            metadata = job.metadata;
+    }
+    return data + metadata;
+}
+
+/* What it writes in so many seconds: all jobs start together at second 0, which is not counted, and the first one runs whenever
+ * another does. */
+static uint64_t pages_in(const struct search *s, uint32_t seconds)
+{
+    uint64_t pages = 0;
+    for (uint32_t moment = s->periods[0]; moment <= seconds; moment += s->periods[0])
+        pages += pages_at(s, moment);
+    return pages;
+}
+
+/* 3,600 times the pages of Tn seconds, over Tn, rounded up once. */
 static uint64_t need_of(const struct search *s)
 {
-    uint64_t last = s->periods[s->n - 1], pages = 0;
-    for (uint32_t i = 0; i < s->n; i++) {
-        struct job job = get_job(s->jobs, i);
-        pages += ((uint64_t)job.data + job.metadata) * (last / s->periods[i]);
-    }
-    return (3600 * pages + last - 1) / last;
+    uint32_t last = s->periods[s->n - 1];
+    return (3600 * pages_in(s, last) + last - 1) / last;
 }
 
 static uint64_t loss_of(const struct search *s)
