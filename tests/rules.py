@@ -1,4 +1,4 @@
-"""Document 01's rules a second time, with exact fractions and strings of bits, by plain enumeration.
+"""Document 01's rules, with the need of ticket 3, a second time: with exact fractions and strings of bits, by plain enumeration.
 
 They share nothing with the crates, so that what is stored as right is no copy of what a program happened to write.
 """
@@ -59,6 +59,18 @@ def unpacked(data):
     return None, jobs
 
 
+def pages_in(jobs, periods, seconds):
+    """What the drive writes in so many seconds after second 0, at which all jobs start together: the data of every run, and at each
+    second on which jobs fall metadata once, as much as the largest of theirs.
+    """
+    data, metadata = 0, [0] * (seconds + 1)
+    for (_, _, d, g, _), t in zip(jobs, periods):
+        for second in range(t, seconds + 1, t):
+            data += d
+            metadata[second] = max(metadata[second], g)
+    return data + sum(metadata)
+
+
 def scored(jobs, periods):
     verdict = judged_values(len(jobs), jobs)
     if verdict:
@@ -68,7 +80,7 @@ def scored(jobs, periods):
         if not job[0] <= t <= job[1] or t % before:
             return (13, k + 1), 0, 0
         before = t
-    need = ceil(sum(Fraction(3600 * (d + g), t) for (_, _, d, g, _), t in zip(jobs, periods)))
+    need = ceil(Fraction(3600 * pages_in(jobs, periods, before), before))
     loss = sum(w * (3600 * (d + g) // lo - 3600 * (d + g) // t) ** 2 for (lo, _, d, g, w), t in zip(jobs, periods))
     return None, need, loss
 

@@ -55,7 +55,7 @@ def expected():
 
     most = 2 ** 32 - 1
     yield "choices"
-    for budget in (4319, 4320, 5399, 5400):
+    for budget in (4175, 4176, 5219, 5220):
         yield from choice(A, budget)
     yield from choice(spans((1, 1), (2, 6), (35, 35)), most)
     yield from choice(spans((1, 1), (2, 4), (35, 35)), most)
@@ -74,7 +74,7 @@ def expected():
 
     yield "tables"
     table = table_rows(A)
-    assert table[:16].hex(" ") == "00 00 10 e0 01 90 32 06 40 00 00 00 00 00 00 00"
+    assert table[:16].hex(" ") == "00 00 10 50 01 90 32 06 40 00 00 00 00 00 00 00"
 
     def built(jobs):
         rows = table_rows(jobs)
@@ -86,7 +86,7 @@ def expected():
     yield from built(spans((1, 1), (2, 4), (35, 35)))
 
     yield "lookups"
-    for budget in (4319, 4320, 5399, 5400):
+    for budget in (4175, 4176, 5219, 5220):
         found = [table[i:i + 16] for i in range(0, len(table), 16) if int.from_bytes(table[i:i + 4], "big") <= budget]
         yield from (told(chosen(A, budget)[0]), found[-1].hex() if found else "")
 
