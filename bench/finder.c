@@ -1,13 +1,14 @@
 #include "finder.h"
 
 #include "jobs.h"
+#include "load.h"
 #include "reference.h"
 #include "word.h"
 
 /* The numbers of the jobs that each row is checked by, made once. */
 struct numbers {
     uint32_t n;
-    uint32_t lo[8], hi[8], pages[8], hourly[8], fastest[8], stiffness[8];
+    uint32_t lo[8], hi[8], loads[8], hourly[8], fastest[8], stiffness[8];
 };
 
 static uint32_t start_at(const uint8_t *table, size_t k) { return (uint32_t)(word_at(table + 16 * k) >> 32); }
@@ -29,7 +30,7 @@ static size_t first_bad_row(const struct numbers *j, const uint8_t *table, size_
             uint32_t t = periods[i];
             if (t < j->lo[i] || j->hi[i] < t || t % before != 0)
                 return k + 1;
-            pages = pages * (t / before) + j->pages[i];
+            pages = pages * (t / before) + j->loads[i];
             uint64_t fall = j->fastest[i] - j->hourly[i] / t;
             loss += j->stiffness[i] * (fall * fall);
             before = t;
@@ -55,12 +56,12 @@ uint64_t finder_lookup(uint32_t n, const uint32_t jobs[], const uint8_t *table, 
     if (length == 0 || length % 16 != 0)
         return refusal(12, 0);
     struct numbers j = {.n = n};
+    put_loads(n, jobs, j.loads);
     for (uint32_t i = 0; i < n; i++) {
         struct job job = get_job(jobs, i);
         j.lo[i] = job.lo;
         j.hi[i] = job.hi;
-        j.pages[i] = job.data + job.metadata;
-        j.hourly[i] = 3600 * j.pages[i];
+        j.hourly[i] = 3600 * (job.data + job.metadata);
         j.fastest[i] = j.hourly[i] / job.lo;
         j.stiffness[i] = job.stiffness;
     }

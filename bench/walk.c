@@ -3,6 +3,7 @@
 #include <string.h>
 
 #include "jobs.h"
+#include "load.h"
 #include "reference.h"
 #include "word.h"
 
@@ -119,11 +120,12 @@ static uint32_t least_need(const struct walk *w, uint32_t i, uint32_t step, uint
 static struct walk prepared(uint32_t n, const uint32_t jobs[], uint32_t budget)
 {
     struct walk w = {.n = n, .budget = budget, .loss = UINT64_MAX};
+    put_loads(n, jobs, w.need_pages);
     for (uint32_t k = n; k-- > 0;) {
         struct job job = get_job(jobs, k);
         w.lo[k] = job.lo;
         w.hi[k] = job.hi;
-        w.need_pages[k] = w.loss_pages[k] = job.data + job.metadata;
+        w.loss_pages[k] = job.data + job.metadata;
         w.stiffness[k] = job.stiffness;
         w.fastest[k] = 3600 * w.loss_pages[k] / w.lo[k];
         w.later[k] = w.later[k + 1] + 3600 * w.need_pages[k] / w.hi[k];
