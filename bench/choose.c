@@ -89,6 +89,9 @@ int main(void)
     heavy_jobs(jobs, 1, 3600);
     for (int i = 0; i < 4; i++)
         measure("8 jobs [1,3600]", jobs, greatest_need(jobs) / parts[i], 1);
+    hide_behind(jobs, 2);
+    for (int i = 0; i < 4; i++)
+        measure("metadata of five is hidden", jobs, greatest_need(jobs) / parts[i], 1);
     for (uint32_t i = 0; i < 6; i++)
         without_pages(jobs, i);
     for (int i = 0; i < 4; i++)

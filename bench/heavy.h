@@ -1,4 +1,4 @@
-/* The profiles that the choice and the table are measured on. */
+/* The profiles that the choice, the table and the lookup are measured on. */
 #ifndef HEAVY_H
 #define HEAVY_H
 
@@ -12,6 +12,9 @@ static void heavy_jobs(uint32_t jobs[], uint32_t lo, uint32_t hi)
         put_job(jobs, i, (struct job){.lo = lo, .hi = hi, .data = pages[i] / 2, .metadata = pages[i] - pages[i] / 2, .stiffness = stiffness[i]});
 }
 
+/* The metadata of job i as large as can be: it hides that of the jobs behind. */
+static void hide_behind(uint32_t jobs[], uint32_t i) { CHAROPLETH_JOB(jobs, i)[CHAROPLETH_METADATA] = 32767; }
+
 /* Jobs of which the seventh alone writes pages. */
 static const struct job one_writes[8] = {
     {.lo = 1, .hi = 3503, .stiffness = 7},
@@ -24,7 +27,7 @@ static const struct job one_writes[8] = {
     {.lo = 1, .hi = 3133, .stiffness = 12},
 };
 
-/* Jobs with 295,498 rows in their table. */
+/* Jobs with 321,717 rows in their table. */
 static const struct job many_rows[8] = {
     {.lo = 1, .hi = 2887, .data = 1, .metadata = 1, .stiffness = 5},
     {.lo = 7, .hi = 3050, .data = 20165, .metadata = 20166, .stiffness = 14},

@@ -3,6 +3,7 @@
 #define _POSIX_C_SOURCE 199309L
 #include <inttypes.h>
 #include <stdio.h>
+#include <stdlib.h>
 
 #include "charopleth.h"
 #include "finder.h"
@@ -58,13 +59,13 @@ static void measure(const char *name, uint32_t budget)
 
 static uint32_t start_of(size_t row) { return reference_start(table + 16 * (row - 1)); }
 
-int main(void)
+/* Fills the table for these jobs, and compares the answers around its starts and with a byte changed. */
+static void try_table(void)
 {
-    heavy_jobs(jobs, 60, 3600);
     uint64_t rows = reference_table(8, jobs, table, sizeof table, UINT64_MAX - 1);
     if (CHAROPLETH_REFUSAL(rows) != 0 || rows < ROWS) {
         printf("no table of %d rows\n", ROWS);
-        return 2;
+        exit(2);
     }
     for (size_t row = 1; row <= ROWS; row += 15)
         for (uint32_t budget = start_of(row) - 1; budget <= start_of(row) + 1; budget++)
@@ -74,6 +75,16 @@ int main(void)
         compared(UINT32_MAX);
         table[at] ^= 1;
     }
+}
+
+int main(void)
+{
+    heavy_jobs(jobs, 60, 3600);
+    hide_behind(jobs, 2);
+    try_table();
+    measure("metadata of five is hidden", UINT32_MAX);
+    heavy_jobs(jobs, 60, 3600);
+    try_table();
     measure("first row", start_of(1));
     measure("middle row", start_of(ROWS / 2));
     measure("last row", UINT32_MAX);

@@ -123,8 +123,11 @@ int main(void)
     heavy_jobs(jobs, 1, 3600);
     measure("8 jobs [1,3600]", jobs, ROWS, &choices);
     measure("8 jobs [1,3600]", jobs, SMALL, 0);
+    heavy_jobs(jobs, 1, 1000);
+    hide_behind(jobs, 2);
+    measure("metadata of five is hidden", jobs, ROWS, 0);
     put_jobs(jobs, many_rows);
-    measure("295,498 rows counted", jobs, 0, 0);
+    measure("321,717 rows counted", jobs, 0, 0);
     put_jobs(jobs, one_writes);
     measure("seven of eight without pages", jobs, ROWS, &uncut);
     measure_drawn();
