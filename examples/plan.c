@@ -51,8 +51,8 @@ int main(void)
         return 1;
     }
     printf("%" PRIu32 " jobs, %" PRIu64 " rows\n", values[0], rows);
-    look_up(values, rows, 5399);
-    look_up(values, rows, 5400);
-    look_up(values, rows, 4319);
+    look_up(values, rows, 5219);
+    look_up(values, rows, 5220);
+    look_up(values, rows, 4175);
     return 0;
 }
