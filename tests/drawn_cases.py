@@ -12,7 +12,7 @@ import random
 import re
 import sys
 
-from rules import chosen, judged_values, looked_up, packed, permitted, put, rows_of, scored, table_rows, unpacked, zone_rows
+from rules import chosen, judged_values, looked_up, packed, pages_in, permitted, put, rows_of, scored, table_rows, unpacked, zone_rows
 
 MOST = 2 ** 32 - 1
 LIST = 300
@@ -175,6 +175,16 @@ def permitting():
     return as_profile(len(jobs), jobs), f"Sound {lists}", None
 
 
+def counting():
+    """The pages of about the last period, of more than two of them, or of any number of seconds."""
+    jobs = next(jobs for jobs in iter(sound_jobs, None) if any(permitted(jobs)))
+    periods = random.choice(list(permitted(jobs)))
+    last = periods[-1]
+    seconds = random.choice((last - 1, last, 2 * last + random.randrange(last), random.randrange(1000)))
+    asked = f"{as_profile(len(jobs), jobs)} {as_list(f'seconds {t}' for t in periods)} {seconds}"
+    return asked, str(pages_in(jobs, periods, seconds)), None
+
+
 def scoring():
     n, jobs = profile()
     verdict, need, loss = judged_values(n, jobs), 0, 0
@@ -213,6 +223,7 @@ KINDS = {
     "writing": lambda: in_any_room(profile_of),
     "writingIn": lambda: in_a_room(profile_of),
     "permitting": permitting,
+    "counting": counting,
     "scoring": scoring,
     "choosing": choosing,
     "listing": lambda: in_any_room(zones_of),
