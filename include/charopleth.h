@@ -11,10 +11,12 @@
  *     8  data or metadata above 32,767
  *
  * Periods, one for each job, are permitted when each lies in its job's interval and is a whole multiple of the one before.
- * Their need is the pages that they write in an hour: 3,600 times the pages of a run, over the period, summed over the jobs
- * as a fraction and rounded up once. They fit a budget when the need is at most that. A job's rate is its part of that sum
- * alone, rounded down, and its loss is its stiffness times the square of what the rate falls by against the shortest period;
- * the loss of a plan is the sum over its jobs.
+ * All jobs start together at second 0, and each runs at every multiple of its period. At a second at which some run, each of
+ * these writes its data, and the drive commits metadata once, as much as the largest of theirs. With T the last job's period,
+ * the need is 3,600 times the pages that are so written in the seconds 1 to T, over T, rounded up once: pages per hour.
+ * Periods fit a budget when their need is at most that. A job's rate is 3,600 times its own data and metadata over its period,
+ * rounded down, and its loss is its stiffness times the square of what the rate falls by against the shortest period; the loss
+ * of a plan is the sum over its jobs.
  *
  * Each function returns a number of 64 bits: the high 16 bits are the refusal's number, 0 for none, and the low 48 its
  * detail, 0 where none is said, or where nothing is refused the count that is said below. A detail or count of 2^48 or more,
