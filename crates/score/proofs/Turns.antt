@@ -1,9 +1,9 @@
 -- The turns of the loop over the jobs: what is known before each, and what each way out of it says.
 -- Assumes nothing.
-use mathlib.Core.Path.{_≡_, refl, sym, _∙_, ap, subst}
+use mathlib.Core.Path.{_≡_, sym, _∙_, subst}
 use mathlib.Core.List.{List, _∷_}
 use mathlib.Core.Bool.{false, true≢false}
-use Prim.Native.Nat.{ℕ, _+_, _≤_, _<_, max}
+use Prim.Native.Nat.{ℕ, _+_, _≤_, _<_}
 use native.Mathlib.Nat.{sub-zero, zero-add}
 use native.Mathlib.Omega.{arith}
 use lib.ListN.{getD}
@@ -15,22 +15,20 @@ use Rattle.model.specs.Testing.{allows}
 use Rattle.model.specs.Valid.{Valid}
 use Rattle.model.proofs.Allowing.{allowed-back}
 use Rattle.model.proofs.Entries.{entries-step}
-use Rattle.step.specs.Step.{load, greatestBefore, carried, needAt}
-use Rattle.step.proofs.Along.{greatest-next, jobsFrom, periodsFrom, Along, along-starts, along-next, along-permitted, along-need, along-lost}
+use Rattle.step.specs.Step.{loadAt, carried, needAt}
+use Rattle.step.proofs.Along.{jobsFrom, periodsFrom, Along, along-starts, along-next, along-permitted, along-need, along-lost}
 use Rattle.score.specs.Scoring.{noScore, FirstOut, here, later, Scoring, permitted, first-out}
 
--- before a turn: the greatest metadata of the jobs before the k-th is known, what they have written and lost is carried along, and the
--- first period that is out, if any, stands among those still to come
-pub record JobsLeft (p : Profile) (ts : List Seconds) (before : Seconds) (greatest written lost k : ℕ) : Type 0 where
-  pub metadata : greatest ≡ greatestBefore p k
+-- before a turn: what the jobs before the k-th have written and lost is carried along, and the first period that is out, if any,
+-- stands among those still to come
+pub record JobsLeft (p : Profile) (ts : List Seconds) (before : Seconds) (written lost k : ℕ) : Type 0 where
   pub along : Along p ts k before written lost
   pub out : {m : ℕ} → FirstOut before (jobsFrom p k) (periodsFrom p ts k) m → FirstOut (seconds 1) (jobsOf p) (periodsOf p ts) (k + m)
 
-pub first-jobs : (p : Profile) (ts : List Seconds) → JobsLeft p ts (seconds 1) 0 0 0 0
-unfolding greatestBefore
-first-jobs p ts = record { metadata = refl; along = along-starts p ts; out = λ {m} f. rw (zero-add m) (rw (sub-zero (p .n)) at f) }
+pub first-jobs : (p : Profile) (ts : List Seconds) → JobsLeft p ts (seconds 1) 0 0 0
+first-jobs p ts = record { along = along-starts p ts; out = λ {m} f. rw (zero-add m) (rw (sub-zero (p .n)) at f) }
 
-module _ {p : Profile} {ts : List Seconds} {before : Seconds} {greatest written lost k : ℕ} (l : JobsLeft p ts before greatest written lost k) where
+module _ {p : Profile} {ts : List Seconds} {before : Seconds} {written lost k : ℕ} (l : JobsLeft p ts before written lost k) where
   -- the job at hand
   module _ (less : k < p .n) where
     from-here : {m : ℕ} →
@@ -44,14 +42,11 @@ module _ {p : Profile} {ts : List Seconds} {before : Seconds} {greatest written 
     pub next-job : Valid p →
         let j = getD (p .jobs) k noJob in
         let t = getD ts k (seconds 0) in
-        Allowed j before t → JobsLeft p ts t (max greatest (j .metadata)) (carried written before t (load greatest j)) (lost + jobLoss j t) (k + 1)
+        Allowed j before t → JobsLeft p ts t (carried written before t (loadAt p k)) (lost + jobLoss j t) (k + 1)
     next-job v a =
         let same : (m : ℕ) → k + (m + 1) ≡ k + 1 + m = λ m. omega arith in
-        let j = getD (p .jobs) k noJob in
-        let t = getD ts k (seconds 0) in
         record {
-          metadata = ap (λ (g : ℕ). max g (j .metadata)) (l .metadata) ∙ sym (greatest-next p k);
-          along = rw (l .metadata) (along-next (l .along) v less a);
+          along = along-next (l .along) v less a;
           out = λ {m} f. subst (FirstOut (seconds 1) (jobsOf p) (periodsOf p ts)) (same m) (from-here (later a f));
         }
 

@@ -33,14 +33,14 @@ pub fn score(p: Profile, periods: [Seconds; 8]) -> Scored
 }
 
 // 13 for the first job whose period is not permitted, else need and loss: `before` is the last of the periods so far; in that
-// time their jobs have `written` so many pages, and they have `lost` so much; `greatest` is the greatest of their metadata.
+// time their jobs have `written` so many pages, and they have `lost` so much.
 fn reckon(p: Profile, periods: [Seconds; 8]) -> Scored
     requires { ⌜ Valid p ⌝ }
     ensures { λ r. ⌜ Scoring (jobsOf p) (periodsOf p periods) r ⌝ }
 {
     let n = p.n as usize;
+    let loads = step::loads_of(p);
     let mut before = Seconds(1);
-    let mut greatest: u32 = 0;
     let mut written: u64 = 0;
     let mut lost: u64 = 0;
     let mut k: usize = 0;
@@ -55,8 +55,7 @@ fn reckon(p: Profile, periods: [Seconds; 8]) -> Scored
             };
         }
         let fastest = step::fastest_rate(j);
-        written = step::carry(written, before, t, step::need_pages(j, greatest));
-        greatest = step::greater(greatest, j.metadata);
+        written = step::carry(written, before, t, loads[k]);
         lost += step::loss_with(j, fastest, t);
         before = t;
         k += 1;

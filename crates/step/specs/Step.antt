@@ -1,9 +1,10 @@
 -- What each job adds to the pages and to the loss of a plan, job after job: the pages of one period are carried on to the next, and
 -- the loss is summed. proofs/Shared.antt shows that pages so summed are those of the model, moment by moment. Contracts of inner
 -- functions cite this, and those of no entry point. Assumes nothing.
+use mathlib.Core.Path.{_≡_}
 use mathlib.Core.List.{List, [], _∷_}
-use Prim.Native.Nat.{ℕ, zero, suc, _+_, _*_, _-_, _/_, _^_, _≤_, max}
-use lib.ListN.{getD}
+use Prim.Native.Nat.{ℕ, zero, suc, _+_, _*_, _-_, _/_, _^_, _≤_, _<_, max}
+use lib.ListN.{length, getD}
 use Rattle.model.specs.declared.Seconds.{Seconds}
 use Rattle.model.specs.declared.PagesPerHour.{PagesPerHour}
 use Rattle.model.specs.declared.Job.{Job}
@@ -31,6 +32,11 @@ greatestBefore p (suc k) = max (greatestBefore p k) (getD (p .jobs) k noJob .met
 -- The load of the job at place k.
 abbrev pub loadAt : Profile → ℕ → ℕ
 loadAt p k = load (greatestBefore p k) (getD (p .jobs) k noJob)
+
+-- The loads of the jobs before place k stand in an array of eight.
+pub record LoadsTo (p : Profile) (k : ℕ) (xs : List ℕ) : Type 0 where
+  pub size : length xs ≡ 8
+  pub are : (m : ℕ) → m < k → getD xs m 0 ≡ loadAt p m
 
 -- The pages in `t` seconds, where jobs before write `written` in `before` seconds and a run of this one adds `own`.
 abbrev pub carried : ℕ → Seconds → Seconds → ℕ → ℕ

@@ -5,17 +5,36 @@
 // its loss. These functions serve other crates of the planner, and their callers meet what they require. Nothing is assumed.
 use model::Job;
 use model::PagesPerHour;
+use model::Profile;
 use model::Seconds;
 ghost use mathlib.Core.Path.{_≡_};
 ghost use Prim.Native.Nat.{_≤_, max};
 ghost use Rattle.model.specs.Model.{pagesPerHour, cost, rate, jobLoss};
 ghost use Rattle.model.specs.Most.{mostPages};
-ghost use Rattle.model.specs.Valid.{ValidJob};
-ghost use Rattle.step.specs.Step.{load, carried, needAt, NeedFits, hourly, lossAt, LossFits};
+ghost use Rattle.model.specs.Valid.{Valid, ValidJob};
+ghost use Rattle.step.specs.Step.{load, LoadsTo, carried, needAt, NeedFits, hourly, lossAt, LossFits};
+
+// The pages of a run of each job, as need counts them: from the first job on, since a job's count depends on those before it.
+pub fn loads_of(p: Profile) -> [u32; 8]
+    requires { ⌜ Valid p ⌝ }
+    ensures { λ r. ⌜ LoadsTo p (p .n) r ⌝ }
+{
+    let n = p.n as usize;
+    let mut loads = [0u32; 8];
+    let mut greatest: u32 = 0;
+    let mut k: usize = 0;
+    while k < n {
+        let j = p.jobs[k];
+        loads[k] = need_pages(j, greatest);
+        greatest = greater(greatest, j.metadata);
+        k += 1;
+    }
+    loads
+}
 
 // The pages of a run, as need counts them: its data, and what its metadata exceeds the `greatest` of the jobs before it by. So
 // much does the one commit grow.
-pub fn need_pages(j: Job, greatest: u32) -> u32
+fn need_pages(j: Job, greatest: u32) -> u32
     requires { ⌜ ValidJob j ⌝ }
     ensures { λ r. ⌜ r ≡ load greatest j ⌝ }
 {
@@ -23,7 +42,7 @@ pub fn need_pages(j: Job, greatest: u32) -> u32
 }
 
 // The greater of two numbers of metadata pages: what one commit of both takes.
-pub fn greater(a: u32, b: u32) -> u32
+fn greater(a: u32, b: u32) -> u32
     ensures { λ r. ⌜ r ≡ max a b ⌝ }
 {
     if a < b {

@@ -32,13 +32,13 @@ pub record Halves (many : ℕ) (f g : ℕ → ℕ) (n end k : ℕ) (xs : List �
   pub front : Filled first f k n xs
   pub back : Filled second g k end xs
 
--- The four arrays of a profile, as far as they are made. When jobs from place k on are in: the shortest periods, then the longest.
+-- The four arrays of a profile, as far as they are made when jobs from place k on are in. The shortest periods, then the longest.
 abbrev pub SpansFrom : Profile → ℕ → List ℕ → Type 0
 SpansFrom p k xs = Halves 16 (λ m. jobAt p m .lo .0) (λ m. jobAt p m .hi .0) (p .n) (p .n) k xs
 
--- When the jobs before place k are in: the pages for need, then those for loss.
-abbrev pub PagesTo : Profile → ℕ → List ℕ → Type 0
-PagesTo p k xs = Halves 16 (loadAt p) (λ m. cost (jobAt p m)) k k 0 xs
+-- The pages for need, then those for loss.
+abbrev pub PagesFrom : Profile → ℕ → List ℕ → Type 0
+PagesFrom p k xs = Halves 16 (loadAt p) (λ m. cost (jobAt p m)) (p .n) (p .n) k xs
 
 -- What the jobs from place k on need at least.
 abbrev pub needsFrom : Profile → ℕ → ℕ

@@ -4,7 +4,7 @@
 // they require. Nothing is assumed.
 use model::Profile;
 ghost use Rattle.model.specs.Valid.{Valid};
-ghost use Rattle.walk.specs.Arrays.{SpansFrom, PagesTo, RatesFrom, StiffnessesFrom};
+ghost use Rattle.walk.specs.Arrays.{SpansFrom, PagesFrom, RatesFrom, StiffnessesFrom};
 
 // The shortest periods of the jobs, then the longest.
 pub fn spans_of(p: Profile) -> [u32; 16]
@@ -22,22 +22,19 @@ pub fn spans_of(p: Profile) -> [u32; 16]
     spans
 }
 
-// The pages of a run that need counts, then those that loss counts: from the first job on, since need counts of a job's metadata
-// only what exceeds the greatest before it.
+// The pages of a run that need counts, then those that loss counts.
 pub fn pages_of(p: Profile) -> [u32; 16]
     requires { ⌜ Valid p ⌝ }
-    ensures { λ r. ⌜ PagesTo p (p .n) r ⌝ }
+    ensures { λ r. ⌜ PagesFrom p 0 r ⌝ }
 {
-    let n = p.n as usize;
+    let loads = step::loads_of(p);
     let mut pages = [0u32; 16];
-    let mut greatest: u32 = 0;
-    let mut k: usize = 0;
-    while k < n {
+    let mut k = p.n as usize;
+    while 0 < k {
+        k -= 1;
         let j = p.jobs[k];
-        pages[k] = step::need_pages(j, greatest);
+        pages[k] = loads[k];
         pages[8 + k] = step::loss_pages(j);
-        greatest = step::greater(greatest, j.metadata);
-        k += 1;
     }
     pages
 }
@@ -45,7 +42,7 @@ pub fn pages_of(p: Profile) -> [u32; 16]
 // The rates at the shortest periods, then what the jobs from each place on need at least, by the pages of their runs.
 pub fn rates_of(p: Profile, pages: &[u32; 16]) -> [u32; 17]
     requires { ⌜ Valid p ⌝ }
-    requires { ⌜ PagesTo p (p .n) (now pages) ⌝ }
+    requires { ⌜ PagesFrom p 0 (now pages) ⌝ }
     ensures { λ r. ⌜ RatesFrom p 0 r ⌝ }
 {
     let mut rates = [0u32; 17];
