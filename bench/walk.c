@@ -11,7 +11,7 @@
 struct walk {
     int without_cut;
     uint32_t n, budget;
-    uint32_t lo[8], hi[8], need_pages[8], loss_pages[8], stiffness[8], fastest[8], later[9];
+    uint32_t lo[8], hi[8], loads[8], loss_pages[8], stiffness[8], fastest[8], later[9];
     uint32_t periods[8];
     uint32_t best[8];
     uint64_t need, loss;
@@ -51,7 +51,7 @@ static int passed_over(uint32_t a, uint32_t first)
 
 static int repeats(const struct walk *w, uint32_t i, uint32_t a, uint32_t first)
 {
-    return !w->without_cut && w->need_pages[i] == 0 && w->loss_pages[i] == 0 && passed_over(a, first);
+    return !w->without_cut && w->loads[i] == 0 && w->loss_pages[i] == 0 && passed_over(a, first);
 }
 
 static uint32_t need_of(uint64_t pages, uint32_t t) { return (uint32_t)((3600 * pages + (t - 1)) / t); }
@@ -81,7 +81,7 @@ static void find_best(struct walk *w, uint32_t i, uint32_t step, uint64_t pages,
             return;
         if (repeats(w, i, t / step, first))
             continue;
-        uint64_t more = pages * (t / step) + w->need_pages[i];
+        uint64_t more = pages * (t / step) + w->loads[i];
         uint32_t need_floor = need_of(more, t) + w->later[i + 1];
         if (need_floor > w->budget || (floor == w->loss && need_floor >= w->need) || !reaches(w, i + 1, t))
             continue;
@@ -98,7 +98,7 @@ static void try_every(struct walk *w, uint32_t i, uint32_t step, uint64_t pages,
     }
     for (uint32_t t = (w->lo[i] + step - 1) / step * step; t <= w->hi[i]; t += step) {
         w->periods[i] = t;
-        try_every(w, i + 1, t, pages * (t / step) + w->need_pages[i], lost + job_loss(w, i, t));
+        try_every(w, i + 1, t, pages * (t / step) + w->loads[i], lost + job_loss(w, i, t));
     }
 }
 
@@ -109,7 +109,7 @@ static uint32_t least_need(const struct walk *w, uint32_t i, uint32_t step, uint
         return need < least ? need : least;
     }
     for (uint32_t t = w->hi[i] / step * step; t >= w->lo[i]; t -= step) {
-        uint64_t more = pages * (t / step) + w->need_pages[i];
+        uint64_t more = pages * (t / step) + w->loads[i];
         if (need_of(more, t) + w->later[i + 1] < least && reaches(w, i + 1, t))
             least = least_need(w, i + 1, t, more, least);
     }
@@ -120,7 +120,7 @@ static uint32_t least_need(const struct walk *w, uint32_t i, uint32_t step, uint
 static struct walk prepared(uint32_t n, const uint32_t jobs[], uint32_t budget)
 {
     struct walk w = {.n = n, .budget = budget, .loss = UINT64_MAX};
-    put_loads(n, jobs, w.need_pages);
+    put_loads(n, jobs, w.loads);
     for (uint32_t k = n; k-- > 0;) {
         struct job job = get_job(jobs, k);
         w.lo[k] = job.lo;
@@ -128,7 +128,7 @@ static struct walk prepared(uint32_t n, const uint32_t jobs[], uint32_t budget)
         w.loss_pages[k] = job.data + job.metadata;
         w.stiffness[k] = job.stiffness;
         w.fastest[k] = 3600 * w.loss_pages[k] / w.lo[k];
-        w.later[k] = w.later[k + 1] + 3600 * w.need_pages[k] / w.hi[k];
+        w.later[k] = w.later[k + 1] + 3600 * w.loads[k] / w.hi[k];
     }
     return w;
 }
@@ -250,7 +250,7 @@ static void find_stairs(struct walk *w, struct stairs *s, uint32_t i, uint32_t s
             return;
         if (repeats(w, i, t / step, first))
             continue;
-        uint64_t more = pages * (t / step) + w->need_pages[i];
+        uint64_t more = pages * (t / step) + w->loads[i];
         uint32_t need_floor = need_of(more, t) + w->later[i + 1];
         if (need_floor > w->budget || covered(s, need_floor, floor) || !reaches(w, i + 1, t))
             continue;
