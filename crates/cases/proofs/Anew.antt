@@ -53,7 +53,7 @@ use Rattle.cases.specs.Case.{Case, reading, writing, writingIn, permitti
 
 -- choosing: what both walks leave, unless the profile is refused
 unfoldable pub choiceFor : Profile → ℕ → Choice
-choiceFor p b = ifSound (verdictOf p) (settle (walk (pick b) (jobsOf p) start nothing) (walkDown lessNeed (jobsOf p) start none)) (noChoice (verdictOf p))
+choiceFor p b = ifSound (verdictOf p) (settle (jobsOf p) (walk (pick b) (jobsOf p) start nothing) (walkDown lessNeed (jobsOf p) start none)) (noChoice (verdictOf p))
 
 choice-meets : (p : Profile) (b : ℕ) → Chosen p (pagesPerHour b) (choiceFor p b)
 unfolding choiceFor

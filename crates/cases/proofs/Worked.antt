@@ -2,14 +2,14 @@
 -- Assumes nothing.
 use mathlib.Core.Path.{_≡_, refl, _∙_, sym, ap, subst}
 use mathlib.Core.List.{List, [], _∷_, map, flatMap, List·Memᴰ, List·Memᴰ·head, List·Memᴰ·tail}
-use Rattle.model.specs.Model.{entries, cost, lastOf, running, dataOf, commitOf, pagesAt, sumOver, pagesIn, need, rate, jobLoss, loss, verdictOf, refuseIf, orElse, ifSound, firstRefused, judgeIntervalAndStiffness, judgeJob}
+use Rattle.model.specs.Model.{entries, cost, lastOf, running, dataOf, commitOf, pagesAt, sumOver, pagesIn, exactNeed, roundedUp, need, rate, jobLoss, loss, verdictOf, refuseIf, orElse, ifSound, firstRefused, judgeIntervalAndStiffness, judgeJob}
 use Rattle.model.specs.Climb.{inTurn, climbTo, descendTo}
 use Rattle.model.specs.Testing.{allows}
 use Rattle.codec.specs.Packing.{bits, pack, unpack, recut}
 use Rattle.codec.specs.Layout.{recordBytes, profileBytes}
 use Rattle.table_row.specs.Table.{tableRow}
 use Rattle.profile_read.specs.Reading.{headerOf, recordsIn, judgeRecord, judgeHeader, verdictOfBytes}
-use Rattle.step.specs.Step.{load}
+use Rattle.step.specs.Step.{load, needAt}
 use Rattle.score.specs.Judging.{judgePeriod, firstUnpermitted}
 use Rattle.score.proofs.Computed.{scoredBy, scoreFor}
 use Rattle.walk.specs.Chains.{risingFrom, multiples, fallingFrom, multiplesDown, chainsBy}
@@ -32,8 +32,8 @@ use Rattle.cases.proofs.Anew.{choiceFor, readingFor, counted, after, ro
 -- Computing every answer of a list anew gives the same list. To unfold this is to unfold all that is computed with.
 unfoldable pub Computed : List Case → Type 0
 unfolding anew readingFor verdictOfBytes judgeHeader headerOf recordsIn judgeRecord profileBytes recordBytes chainsBy choiceFor scoreFor counted after
-    roomy settle walkBy visit pick lessNeed beats multiples risingFrom climbTo multiplesDown fallingFrom descendTo inTurn load cost rate jobLoss entries
-    verdictOf refuseIf orElse ifSound firstRefused judgeIntervalAndStiffness judgeJob need loss pagesIn sumOver pagesAt running dataOf commitOf lastOf scoredBy firstUnpermitted judgePeriod
+    roomy settle walkBy visit pick lessNeed beats multiples risingFrom climbTo multiplesDown fallingFrom descendTo inTurn load needAt cost rate jobLoss entries
+    verdictOf refuseIf orElse ifSound firstRefused judgeIntervalAndStiffness judgeJob need roundedUp exactNeed loss pagesIn sumOver pagesAt running dataOf commitOf lastOf scoredBy firstUnpermitted judgePeriod
     zonesIn zonesBelow unlessEmpty flatMap rowsOf recut pack unpack bits tableBytes tableRow descent upTo locateFor findFor wholeRows firstBad rowGood
     permits zerosFrom afterGood allows rowFields lastWithin
 Computed cs = map anew cs ≡ cs

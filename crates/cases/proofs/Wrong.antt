@@ -32,13 +32,13 @@ differ : {A : Type 0} (number-of : A → ℕ) {x y : A} → x ≡ y → eqb (num
 differ number-of e unequal = eqb-false _ _ unequal (ap number-of e)
 
 -- what the contracts allow at the inputs tried
-at-4176 : (f : Chooser) → ChoosesFor profileA 4176 f → f profileA (pagesPerHour 4176) ≡ plan 4176 3281956 (25 ∷ 50 ∷ 100 ∷ [])
+at-4176 : (f : Chooser) → ChoosesFor profileA 4176 f → f profileA (pagesPerHour 4176) ≡ plan 4176 0 3281956 (25 ∷ 50 ∷ 100 ∷ [])
 unfolding Computed
-at-4176 f = right (choosing profileA 4176 (plan 4176 3281956 (25 ∷ 50 ∷ 100 ∷ []))) refl _
+at-4176 f = right (choosing profileA 4176 (plan 4176 0 3281956 (25 ∷ 50 ∷ 100 ∷ []))) refl _
 
-at-5220 : (f : Chooser) → ChoosesFor profileA 5220 f → f profileA (pagesPerHour 5220) ≡ plan 5220 864676 (20 ∷ 60 ∷ 60 ∷ [])
+at-5220 : (f : Chooser) → ChoosesFor profileA 5220 f → f profileA (pagesPerHour 5220) ≡ plan 5220 0 864676 (20 ∷ 60 ∷ 60 ∷ [])
 unfolding Computed
-at-5220 f = right (choosing profileA 5220 (plan 5220 864676 (20 ∷ 60 ∷ 60 ∷ []))) refl _
+at-5220 f = right (choosing profileA 5220 (plan 5220 0 864676 (20 ∷ 60 ∷ 60 ∷ []))) refl _
 
 nine-rows : (f : Filler) → MeetsAt Built profileA (lent 144) f → (f profileA (lent 144) .0 ≡ number 9) × (f profileA (lent 144) .1 ≡ tableA)
 unfolding Computed

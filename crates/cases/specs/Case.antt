@@ -89,12 +89,13 @@ noValues v = record { verdict = v; profile = noProfile }
 abbrev pub eight : List ℕ → List Seconds
 eight ts = padded (seconds 0) (map seconds ts)
 
--- A choice and a score: need, loss, periods. Beside a refusal there is neither, `noChoice` and `noScore`.
-abbrev pub plan : ℕ → ℕ → List ℕ → Choice
-plan q l ts = record { verdict = Sound; periods = eight ts; need = pagesPerHour q; loss = l }
+-- A choice and a score: the need's whole pages and its remainder, the loss, periods. Beside a refusal there is neither, `noChoice` and
+-- `noScore`.
+abbrev pub plan : ℕ → ℕ → ℕ → List ℕ → Choice
+plan q r l ts = record { verdict = Sound; periods = eight ts; need = record { whole = pagesPerHour q; remainder = record { 0 = r } }; loss = l }
 
-abbrev pub scored : ℕ → ℕ → Scored
-scored q l = record { verdict = Sound; need = pagesPerHour q; loss = l }
+abbrev pub scored : ℕ → ℕ → ℕ → Scored
+scored q r l = record { verdict = Sound; need = record { whole = pagesPerHour q; remainder = record { 0 = r } }; loss = l }
 
 -- No permitted periods fit a budget below this one.
 abbrev pub below : ℕ → Verdict

@@ -1,4 +1,4 @@
--- The numbers of document 01 and of ticket 3, and some more of the kind, as one list: an entry says what is asked, of which profile, and
+-- The numbers of document 01 and of tickets 3 and 4, and some more of the kind, as one list: an entry says what is asked, of which profile, and
 -- what must come out.
 -- Assumes nothing.
 use mathlib.Core.List.{List, [], _∷_, _++_, map}
@@ -26,6 +26,10 @@ profileA = profile jobsA
 -- One job at 7 seconds (P8).
 abbrev pub atSeven : Profile
 atSeven = profile (interval 7 7 ∷ [])
+
+-- One job whose rate is 52 pages at 68 and at 69 seconds, 51 at 70, and 50 at 71 and at 72, where nothing remains.
+abbrev pub inFractions : Profile
+inFractions = profile (interval 68 72 ∷ [])
 
 -- Three jobs: the second commits no more than the first, the third more.
 abbrev pub hidden : Profile
@@ -123,33 +127,33 @@ cases =
     ∷ choosing profileA 4175 (noChoice (below 4176))
     ∷ lookingUp profileA tableA 4175 (noCount (below 4176)) []
     -- P2
-    ∷ choosing profileA 4176 (plan 4176 3281956 (25 ∷ 50 ∷ 100 ∷ []))
+    ∷ choosing profileA 4176 (plan 4176 0 3281956 (25 ∷ 50 ∷ 100 ∷ []))
     ∷ lookingUp profileA tableA 4176 (number 1) (rows (row₁ ∷ []))
     -- P3
-    ∷ choosing profileA 5219 (plan 4972 1127645 (21 ∷ 63 ∷ 63 ∷ []))
+    ∷ choosing profileA 5219 (plan 4971 27 1127645 (21 ∷ 63 ∷ 63 ∷ []))
     ∷ lookingUp profileA tableA 5219 (number 5) (rows (row₅ ∷ []))
     -- P4
-    ∷ choosing profileA 5220 (plan 5220 864676 (20 ∷ 60 ∷ 60 ∷ []))
+    ∷ choosing profileA 5220 (plan 5220 0 864676 (20 ∷ 60 ∷ 60 ∷ []))
     ∷ lookingUp profileA tableA 5220 (number 6) (rows (row₆ ∷ []))
     -- the 87 pages behind it, twice as many in twice the time, and 20 in 59 seconds, before the second and the third job have run
     ∷ counting profileA (eight (20 ∷ 60 ∷ 60 ∷ [])) 60 87
     ∷ counting profileA (eight (20 ∷ 60 ∷ 60 ∷ [])) 120 174
     ∷ counting profileA (eight (20 ∷ 60 ∷ 60 ∷ [])) 59 20
-    ∷ scoring profileA (eight (20 ∷ 60 ∷ 60 ∷ [])) (scored 5220 864676)
+    ∷ scoring profileA (eight (20 ∷ 60 ∷ 60 ∷ [])) (scored 5220 0 864676)
     -- metadata that the job before hides, then metadata that exceeds what was: 6, 8, 6 and 12 pages in 40 seconds
     ∷ counting hidden (eight (10 ∷ 20 ∷ 40 ∷ [])) 40 32
-    ∷ scoring hidden (eight (10 ∷ 20 ∷ 40 ∷ [])) (scored 2880 810000)
+    ∷ scoring hidden (eight (10 ∷ 20 ∷ 40 ∷ [])) (scored 2880 0 810000)
     -- metadata that is all that a job writes, and hidden: its longer period needs no less, so there is one row
     ∷ building allHidden (number 1) (rows ((0x00 ∷ 0x00 ∷ 0x08 ∷ 0x70 ∷ 0x00 ∷ 0xA0 ∷ 0x0A ∷ []) ∷ []))
-    ∷ choosing allHidden 2160 (plan 2160 0 (10 ∷ 10 ∷ []))
-    ∷ scoring allHidden (eight (10 ∷ 20 ∷ [])) (scored 2160 291600)
+    ∷ choosing allHidden 2160 (plan 2160 0 0 (10 ∷ 10 ∷ []))
+    ∷ scoring allHidden (eight (10 ∷ 20 ∷ [])) (scored 2160 0 291600)
     -- A's table, in which P1 to P4 were looked up
     ∷ building profileA (number 9) tableA
     -- P5
     ∷ listing profileA (number 3) zonesA
     -- P6
     ∷ permitting oneList Sound (map (map seconds) ((1 ∷ 5 ∷ 35 ∷ []) ∷ []))
-    ∷ choosing oneList 0xffff_ffff (plan 4423 1166400 (1 ∷ 5 ∷ 35 ∷ []))
+    ∷ choosing oneList 0xffff_ffff (plan 4422 30 1166400 (1 ∷ 5 ∷ 35 ∷ []))
     ∷ listing oneList (number 1) (rows ((0x00 ∷ 0x10 ∷ 0x01 ∷ 0x00 ∷ 0x50 ∷ 0x23 ∷ []) ∷ []))
     -- P7
     ∷ choosing (profile (interval 1 1 ∷ interval 2 4 ∷ interval 35 35 ∷ [])) 0xffff_ffff (noChoice NoPeriods)
@@ -157,23 +161,33 @@ cases =
     ∷ building (profile (interval 1 1 ∷ interval 2 4 ∷ interval 35 35 ∷ [])) (noCount NoPeriods) []
     -- P8
     ∷ choosing atSeven 514 (noChoice (below 515))
-    ∷ choosing atSeven 515 (plan 515 0 (7 ∷ []))
+    ∷ choosing atSeven 515 (plan 514 2 0 (7 ∷ []))
     -- P9
-    ∷ scoring (profile (interval 7 7 ∷ interval 7 7 ∷ [])) (eight (7 ∷ 7 ∷ [])) (scored 1029 0)
+    ∷ scoring (profile (interval 7 7 ∷ interval 7 7 ∷ [])) (eight (7 ∷ 7 ∷ [])) (scored 1028 4 0)
     ∷ choosing (profile (interval 7 7 ∷ interval 7 7 ∷ [])) 1028 (noChoice (below 1029))
     -- with metadata in the place of data they commit once
-    ∷ scoring (profile (job 7 7 0 1 1 ∷ job 7 7 0 1 1 ∷ [])) (eight (7 ∷ 7 ∷ [])) (scored 515 0)
+    ∷ scoring (profile (job 7 7 0 1 1 ∷ job 7 7 0 1 1 ∷ [])) (eight (7 ∷ 7 ∷ [])) (scored 514 2 0)
+    -- a need over Tn, not over T1: 313,200 over 66 leaves 30
+    ∷ scoring profileA (eight (22 ∷ 66 ∷ 66 ∷ [])) (scored 4745 30 1406313)
+    -- the need rounded up settles a tie: 71 seconds have the same whole pages as 72 and come first, 69 need exactly less than 68
+    ∷ choosing inFractions 51 (plan 50 0 4 (72 ∷ []))
+    ∷ choosing inFractions 53 (plan 52 64 0 (68 ∷ []))
+    -- it meets a budget, 68 and 69 seconds with 52 whole pages do not fit 52, and it is the start of a row
+    ∷ choosing inFractions 52 (plan 51 30 1 (70 ∷ []))
+    ∷ building inFractions (number 3) (rows ((0x00 ∷ 0x00 ∷ 0x00 ∷ 0x32 ∷ 0x04 ∷ 0x80 ∷ []) ∷ (0x00 ∷ 0x00 ∷ 0x00 ∷ 0x34 ∷ 0x04 ∷ 0x60 ∷ []) ∷ (0x00 ∷ 0x00 ∷ 0x00 ∷ 0x35 ∷ 0x04 ∷ 0x40 ∷ []) ∷ []))
+    -- in a lent table it is held against a start: 52 for 68 seconds is wrong
+    ∷ lookingUp inFractions (rows ((0x00 ∷ 0x00 ∷ 0x00 ∷ 0x34 ∷ 0x04 ∷ 0x40 ∷ []) ∷ [])) 52 (noCount (Row 1)) []
     -- P10: the one row, and its loss
     ∷ building (profile (interval 1801 3600 ∷ [])) (number 1) (rows ((0x00 ∷ 0x00 ∷ 0x00 ∷ 0x01 ∷ 0xE1 ∷ 0x00 ∷ []) ∷ []))
-    ∷ choosing (profile (interval 1801 3600 ∷ [])) 2 (plan 1 0 (3600 ∷ []))
+    ∷ choosing (profile (interval 1801 3600 ∷ [])) 2 (plan 1 0 0 (3600 ∷ []))
     -- no pages
-    ∷ choosing (profile (job 3600 3600 0 0 1 ∷ [])) 0 (plan 0 0 (3600 ∷ []))
+    ∷ choosing (profile (job 3600 3600 0 0 1 ∷ [])) 0 (plan 0 0 0 (3600 ∷ []))
     -- a tie that the list settles
-    ∷ choosing (profile (job 1 2 0 0 1 ∷ [])) 0 (plan 0 0 (1 ∷ []))
+    ∷ choosing (profile (job 1 2 0 0 1 ∷ [])) 0 (plan 0 0 0 (1 ∷ []))
     -- an interval that encloses the next one's
-    ∷ choosing (profile (interval 10 10 ∷ job 10 40 20 0 32 ∷ interval 20 30 ∷ [])) 100000 (plan 7740 0 (10 ∷ 10 ∷ 20 ∷ []))
+    ∷ choosing (profile (interval 10 10 ∷ job 10 40 20 0 32 ∷ interval 20 30 ∷ [])) 100000 (plan 7740 0 0 (10 ∷ 10 ∷ 20 ∷ []))
     -- a stiffness other than 1: 3 times the square of 1,028 less 102
-    ∷ scoring (profile (job 7 70 1 1 3 ∷ [])) (eight (70 ∷ [])) (scored 103 2572428)
+    ∷ scoring (profile (job 7 70 1 1 3 ∷ [])) (eight (70 ∷ [])) (scored 102 60 2572428)
     -- periods that are not permitted: the second is no multiple of the first
     ∷ scoring profileA (eight (25 ∷ 51 ∷ 100 ∷ [])) (noScore (Periods 2))
     -- five zones and nine lists

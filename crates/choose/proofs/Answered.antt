@@ -12,7 +12,7 @@ use Rattle.model.specs.declared.Job.{Job}
 use Rattle.model.specs.declared.Verdict.the-variants.{NoPeriods, Budget}
 use Rattle.model.specs.Model.{seconds, pagesPerHour, PermittedAfter}
 use Rattle.model.specs.Valid.{ValidJobs}
-use Rattle.choose.specs.Choice.{noChoice, Outcome}
+use Rattle.choose.specs.Choice.{answered, noChoice, Outcome, given}
 use Rattle.choose.specs.Least.{LeastOrNone}
 use Rattle.walk.specs.Walk.{start, walk, walkDown}
 use Rattle.choose_offer.specs.Found.{nothing, found, pick}
@@ -22,7 +22,7 @@ use Rattle.walk.specs.Arrays.{Held}
 use Rattle.walk.specs.Steps.{periodsIn}
 use Rattle.choose_offer.specs.Steps.{noPlan, foundIn}
 use Rattle.choose_walk.specs.Steps.{noNeed, leastIn, Lessens, Walks}
-use Rattle.choose.specs.Steps.{settle, Small, planIn}
+use Rattle.choose.specs.Steps.{settle}
 use Rattle.walk.proofs.Falling.{down-lists}
 use Rattle.choose_walk.proofs.Fold.{walk-best}
 use Rattle.choose.proofs.LeastNeed.{walk-least}
@@ -31,35 +31,17 @@ use Rattle.walk.proofs.Held.{held-valid}
 use Rattle.choose_walk.proofs.Lessening.{some-least, no-least}
 use Rattle.choose_offer.proofs.Stored.{plan-found, no-plan-found}
 
--- each period that is permitted is within the hour
-permitted-to : (before : Seconds) (js : List Job) (n : ℕ) (xs : List ℕ) → ValidJobs js → PermittedAfter before js (periodsIn n xs) → (k : ℕ) → k < n → getD xs k 0 ≤ 3600
-permitted-to before js zero xs v h k less = absurd (omega arith)
-permitted-to before js (suc n) [] v h zero less = zero-le
-permitted-to before js (suc n) [] v h (suc k) less = zero-le
-permitted-to before [] (suc n) (x ∷ xs) v h k less = absurd h
-permitted-to before (j ∷ js) (suc n) (x ∷ xs) v h zero less = le-trans (h .0 .below) (v .0 .hi-to)
-permitted-to before (j ∷ js) (suc n) (x ∷ xs) v h (suc k) less = permitted-to (seconds x) js n xs (v .1) (h .1) k (omega arith)
-
 module _ {spans pages rates stiffnesses : List ℕ} {n : ℕ} {js : List Job} (held : Held spans pages rates stiffnesses 0 n 0 js) where
   module _ {b : PagesPerHour} {ps ps′ best best′ : List ℕ} (w : Walks spans pages rates stiffnesses 0 n b (seconds 1) 0 0 ps ps′ best best′) (begun : getD best 9 0 ≡ noPlan) where
     best-or-none : BestOrNone js b (foundIn n best′)
     best-or-none = subst (BestOrNone js b) (sym (w .walked .is 0 js held ∙ ap (walk (pick (b .0)) js start) (no-plan-found n best begun))) (walk-best js b (held-valid js held))
 
-    best-found : (getD best′ 9 0 ≡ noPlan → ⊥) → BestFound js b (getD best′ 8 0) (getD best′ 9 0) (periodsIn n best′)
+    pub best-found : (getD best′ 9 0 ≡ noPlan → ⊥) → BestFound js b (getD best′ 8 0) (getD best′ 9 0) (periodsIn n best′)
     best-found some = subst (BestOrNone js b) (plan-found n best′ some) best-or-none
 
     -- a plan was found
-    pub plan-small : b .0 < 2 ^ 32 → (getD best′ 9 0 ≡ noPlan → ⊥) → Small n best′
-    plan-small fits some =
-        let f = best-found some in
-        let q = f .its-need in
-        let to = f .best .fits in
-        let within = permitted-to (seconds 1) js n best′ (held-valid js held) (f .best .permitted) in
-        record { count = held .most; size = w .sizes .best-size; periods = λ k less. (let p = within k less in omega arith); its-need = omega arith }
-
-    pub plan-right : (getD best′ 9 0 ≡ noPlan → ⊥) → Outcome js b (planIn n best′)
-    unfolding settle
-    plan-right some = settled js b (found (getD best′ 8 0) (getD best′ 9 0) (periodsIn n best′)) (walkDown lessNeed js start none) (best-found some) (walk-least down-lists js (held-valid js held))
+    pub plan-right : (getD best′ 9 0 ≡ noPlan → ⊥) → Outcome js b (answered js (periodsIn n best′))
+    plan-right some = given (best-found some .best)
 
     -- none was found: the least need, if there is one
     module _ (no-plan : getD best′ 9 0 ≡ noPlan) (r : PagesPerHour) (l : Lessens spans pages rates 0 n (seconds 1) 0 (pagesPerHour noNeed) r) where

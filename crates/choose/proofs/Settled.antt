@@ -1,27 +1,23 @@
 -- The best plan found, else the least need, else nothing: together they are the outcome that is right for the jobs and the budget.
 -- Assumes nothing.
-use mathlib.Core.Path.{_≡_, sym, ap₂, subst}
+use mathlib.Core.Path.{_≡_}
 use mathlib.Core.List.{List}
-use Prim.Native.Nat.{ℕ}
 use Rattle.model.specs.declared.PagesPerHour.{PagesPerHour}
 use Rattle.model.specs.declared.Job.{Job}
 use Rattle.model.specs.declared.Profile.{Profile}
 use Rattle.model.specs.declared.Verdict.the-variants.{Sound}
-use Rattle.model.specs.Model.{seconds, pagesPerHour, jobsOf, verdictOf, padded}
+use Rattle.model.specs.Model.{jobsOf, verdictOf}
 use Rattle.choose.specs.declared.Choice.{Choice}
-use Rattle.choose.specs.Choice.{answered, noChoice, Chosen, Outcome, given, none-permitted, none-fit}
+use Rattle.choose.specs.Choice.{noChoice, Chosen, Outcome, given, none-permitted, none-fit}
 use Rattle.choose_offer.specs.Found.{Found, nothing, found}
 use Rattle.choose_walk.specs.Least.{Least, none, least}
 use Rattle.choose_walk.specs.Best.{BestOrNone}
 use Rattle.choose.specs.Steps.{settle}
 use Rattle.choose.specs.Least.{LeastOrNone}
 
-pub settled : (js : List Job) (b : PagesPerHour) (had : Found) (m : Least) → BestOrNone js b had → LeastOrNone js m → Outcome js b (settle had m)
+pub settled : (js : List Job) (b : PagesPerHour) (had : Found) (m : Least) → BestOrNone js b had → LeastOrNone js m → Outcome js b (settle js had m)
 unfolding settle
-settled js b (found q l ts) m h k = subst (Outcome js b) (sym told) (given (h .best))
-  where
-    told : settle (found q l ts) m ≡ answered js ts
-    told = ap₂ (λ (x y : ℕ). record { verdict = Sound; periods = padded (seconds 0) ts; need = pagesPerHour x; loss = y }) (h .its-need) (h .its-loss)
+settled js b (found q l ts) m h k = given (h .best)
 settled js b nothing (least m) h k = none-fit k h
 settled js b nothing none h k = none-permitted k
 

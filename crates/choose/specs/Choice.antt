@@ -9,16 +9,16 @@ use Rattle.model.specs.declared.Job.{Job}
 use Rattle.model.specs.declared.Profile.{Profile}
 use Rattle.model.specs.declared.Verdict.{Verdict}
 use Rattle.model.specs.declared.Verdict.the-variants.{Sound, NoPeriods, Budget}
-use Rattle.model.specs.Model.{seconds, pagesPerHour, jobsOf, Permitted, need, FitsBudget, loss, Best, padded, ProfileFirst}
+use Rattle.model.specs.Model.{seconds, jobsOf, Permitted, exactNeed, zeroNeed, FitsBudget, loss, Best, padded, ProfileFirst}
 use Rattle.choose.specs.declared.Choice.{Choice}
 
--- These periods, with their need and their loss (Quantities, on choosing).
+-- These periods, with their need, without rounding, and their loss (Quantities, on choosing; 02, Ticket 4).
 abbrev pub answered : List Job → List Seconds → Choice
-answered js ts = record { verdict = Sound; periods = padded (seconds 0) ts; need = need js ts; loss = loss js ts }
+answered js ts = record { verdict = Sound; periods = padded (seconds 0) ts; need = exactNeed js ts; loss = loss js ts }
 
 -- A refusal, and nothing else beside it (Refusal numbers).
 abbrev pub noChoice : Verdict → Choice
-noChoice v = record { verdict = v; periods = replicate 8 (seconds 0); need = pagesPerHour 0; loss = 0 }
+noChoice v = record { verdict = v; periods = replicate 8 (seconds 0); need = zeroNeed; loss = 0 }
 
 -- The smallest budget with an answer: some permitted periods fit it, and every budget that some fit is no smaller (Refusal numbers, 10).
 pub record LeastBudget (js : List Job) (m : PagesPerHour) : Type 0 where

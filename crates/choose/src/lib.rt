@@ -3,23 +3,25 @@
 // specs/Choice.antt says what may be answered; specs/Steps.antt serves the private functions alone.
 // Nothing is assumed, and no public function has a `requires`.
 use choose_offer::LOSS;
-use choose_offer::NEED;
 use choose_offer::NO_PLAN;
+use model::ExactNeed;
 use model::PagesPerHour;
 use model::Profile;
 use model::Seconds;
 use model::Verdict;
+use model::ZERO_NEED;
 ghost use mathlib.Core.Path.{_≡_};
 ghost use Rattle.model.specs.Model.{jobsOf};
 ghost use Rattle.model.specs.Valid.{Valid};
-ghost use Rattle.choose.specs.Choice.{noChoice, Outcome, Chosen};
-ghost use Rattle.choose.specs.Steps.{Small, planIn};
+ghost use Rattle.walk.specs.Steps.{periodsIn};
+ghost use Rattle.choose.specs.Choice.{answered, noChoice, Outcome, Chosen};
+ghost use Rattle.choose.specs.Steps.{PlanHeld};
 
-// What `choose` answers: the periods (zeros beyond n), their need and loss; beside a refusal all zeros.
+// What `choose` answers: the periods (zeros beyond n), their need without rounding, and their loss; beside a refusal all zeros.
 pub struct Choice {
     pub verdict: Verdict,
     pub periods: [Seconds; 8],
-    pub need: PagesPerHour,
+    pub need: ExactNeed,
     pub loss: u64,
 }
 
@@ -65,7 +67,7 @@ fn choose_sound(p: Profile, budget: PagesPerHour) -> Choice
         &mut best,
     );
     if best[LOSS] != NO_PLAN {
-        return plan(n, &best);
+        return plan(p, &pages, &best);
     }
     let least = choose_walk::least_need(&spans, &pages, &rates, 0, n, Seconds(1), 0, NO_NEED);
     if least.0 == NO_NEED.0 {
@@ -74,21 +76,28 @@ fn choose_sound(p: Profile, budget: PagesPerHour) -> Choice
     refusal(Verdict::Budget(least))
 }
 
-// A best plan as an answer, with zeros beyond its n periods.
-fn plan(n: usize, best: &[u64; 10]) -> Choice
-    requires { ⌜ Small n (now best) ⌝ }
-    ensures { λ r. ⌜ r ≡ planIn n (now (best .entry)) ⌝ }
+// A best plan as an answer, with zeros beyond its n periods. The walk kept its need rounded up, so its pages are carried along once
+// more: `before` is the last of the periods so far, and in that time their jobs have `written` so many.
+fn plan(p: Profile, pages: &[u32; 16], best: &[u64; 10]) -> Choice
+    requires { ⌜ PlanHeld p (now pages) (now best) ⌝ }
+    ensures { λ r. ⌜ r ≡ answered (jobsOf p) (periodsIn (p .n) (now (best .entry))) ⌝ }
 {
+    let n = p.n as usize;
     let mut periods = [Seconds(0); 8];
+    let mut before = Seconds(1);
+    let mut written: u64 = 0;
     let mut k: usize = 0;
     while k < n {
-        periods[k] = Seconds(best[k] as u32);
+        let t = Seconds(best[k] as u32);
+        written = step::carry(written, before, t, pages[k]);
+        periods[k] = t;
+        before = t;
         k += 1;
     }
     Choice {
         verdict: Verdict::Sound,
         periods,
-        need: PagesPerHour(best[NEED] as u32),
+        need: step::exact_need(written, before),
         loss: best[LOSS],
     }
 }
@@ -100,7 +109,7 @@ fn refusal(v: Verdict) -> Choice
     Choice {
         verdict: v,
         periods: [Seconds(0); 8],
-        need: PagesPerHour(0),
+        need: ZERO_NEED,
         loss: 0,
     }
 }

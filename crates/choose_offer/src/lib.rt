@@ -63,7 +63,8 @@ pub fn offer(
     requires { ⌜ Sizes n (now periods) (now best) ⌝ }
     ensures { λ _. ⌜ Offers n budget t written lost (now (periods .entry)) (now (best .entry)) (now (best .exit)) ⌝ }
 {
-    let need = step::need_of(written, t);
+    let exact = step::exact_need(written, t);
+    let need = step::rounded_up(exact);
     if budget.0 < need.0 {
         return;
     }

@@ -79,7 +79,7 @@ pub record Down (spans pages rates : List ℕ) (i n : ℕ) (step : Seconds) (wri
 module _ {spans pages rates : List ℕ} {i n : ℕ} {step : Seconds} {written : ℕ} (r : ReadyForNeed spans pages rates i n step written) where
   -- the last job has its period: one plan, its need
   pub down-leaf : i ≡ n → (had q r : PagesPerHour) → q ≡ pagesPerHour (needAt written step) → r .0 ≡ min (q .0) (had .0) → Lessens spans pages rates i n step written had r
-  unfolding needAt walkBy
+  unfolding walkBy
   down-leaf e had q m is smaller stiffnesses g js lost ts h =
       let empty : js ≡ [] = held-none js (subst (λ (x : ℕ). Held spans pages rates stiffnesses x n g js) e h) in
       let small = need-to (ready-need (r .ready)) in

@@ -88,7 +88,7 @@ pub fn least_need(
     ensures { λ r. ⌜ Lessens (now (spans .entry)) (now (pages .entry)) (now (rates .entry)) i n step written had r ⌝ }
 {
     if i == n {
-        return smaller(step::need_of(written, step), had);
+        return smaller(step::rounded_up(step::exact_need(written, step)), had);
     }
     let tries = walk::to_try(spans, i, step);
     let mut least = had;

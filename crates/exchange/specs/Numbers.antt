@@ -1,10 +1,10 @@
 -- Which numbers stand for profiles, answers and verdicts where C lends and gets them. The public contracts of C's functions
 -- cite this. Assumes nothing.
-use mathlib.Core.List.{List, [], _∷_, map, flatMap}
+use mathlib.Core.List.{List, [], _∷_, _++_, map, flatMap}
 use Prim.Native.Nat.{ℕ, _+_, _*_, _-_, _^_, min}
 use lib.ListN.{getD}
 use Rattle.model.specs.declared.Seconds.{Seconds}
-use Rattle.model.specs.declared.PagesPerHour.{PagesPerHour}
+use Rattle.model.specs.declared.ExactNeed.{ExactNeed}
 use Rattle.model.specs.declared.Job.{Job}
 use Rattle.model.specs.declared.Profile.{Profile}
 use Rattle.model.specs.declared.Verdict.{Verdict}
@@ -44,6 +44,10 @@ numbersOf p = p .n ∷ jobsNumbers (entries noJob (p .jobs) 0 8)
 abbrev pub eightPeriodsIn : List ℕ → List Seconds
 eightPeriodsIn numbers = map seconds (entries 0 numbers 0 8)
 
--- A plan as ten numbers: need, loss, and eight periods.
-unfoldable pub answerOf : PagesPerHour → ℕ → List Seconds → List ℕ
-answerOf need loss periods = need .0 ∷ loss ∷ map (λ t. t .0) (entries (seconds 0) periods 0 8)
+-- A score as three numbers: the need's whole pages and its remainder, and the loss.
+abbrev pub scoreOf : ExactNeed → ℕ → List ℕ
+scoreOf need loss = need .whole .0 ∷ need .remainder .0 ∷ loss ∷ []
+
+-- A plan as eleven numbers: its score, and eight periods.
+unfoldable pub answerOf : ExactNeed → ℕ → List Seconds → List ℕ
+answerOf need loss periods = scoreOf need loss ++ map (λ t. t .0) (entries (seconds 0) periods 0 8)

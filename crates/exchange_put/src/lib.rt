@@ -2,8 +2,8 @@
 //
 // Which numbers they are is said in specs/Numbers.antt of exchange. These functions serve the planner's functions for C, which
 // meet what is required. Nothing is assumed.
+use model::ExactNeed;
 use model::Job;
-use model::PagesPerHour;
 use model::Profile;
 use model::Seconds;
 ghost use mathlib.Core.Path.{_≡_};
@@ -35,15 +35,16 @@ pub fn put_job(j: Job, values: &mut [u32; 41], at: usize)
     values[at + 4] = j.stiffness;
 }
 
-// Need, loss and eight periods into ten numbers.
-pub fn put_answer(need: PagesPerHour, loss: u64, periods: [Seconds; 8], answer: &mut [u64; 10])
+// Whole pages and remainder of a need, loss and eight periods into eleven numbers.
+pub fn put_answer(need: ExactNeed, loss: u64, periods: [Seconds; 8], answer: &mut [u64; 11])
     ensures { λ _. ⌜ now (answer .exit) ≡ sets (now (answer .entry)) 0 (answerOf need loss periods) ⌝ }
 {
-    answer[0] = need.0 as u64;
-    answer[1] = loss;
+    answer[0] = need.whole.0 as u64;
+    answer[1] = need.remainder.0 as u64;
+    answer[2] = loss;
     let mut k: usize = 0;
     while k < 8 {
-        answer[2 + k] = model::wide(periods[k]);
+        answer[3 + k] = model::wide(periods[k]);
         k += 1;
     }
 }

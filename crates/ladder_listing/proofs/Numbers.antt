@@ -8,7 +8,7 @@ use Rattle.model.specs.declared.Seconds.{Seconds}
 use Rattle.model.specs.declared.Job.{Job}
 use Rattle.model.specs.declared.Profile.{Profile}
 use Rattle.model.specs.declared.Verdict.the-variants.{Sound}
-use Rattle.model.specs.Model.{seconds, noJob, entries, jobsOf, lastOf, running, dataOf, commitOf, pagesAt, sumOver, pagesIn, need, cost, rate, jobLoss, loss}
+use Rattle.model.specs.Model.{seconds, noJob, entries, jobsOf, lastOf, running, dataOf, commitOf, pagesAt, sumOver, pagesIn, exactNeed, roundedUp, need, cost, rate, jobLoss, loss}
 use Rattle.model.specs.Model.{refuseIf, orElse, ifSound, firstRefused, judgeIntervalAndStiffness, judgeJob, verdictOf}
 use Rattle.model.specs.Climb.{inTurn, climbTo}
 use Rattle.model.specs.ProfileA.{bytesA}
@@ -16,7 +16,7 @@ use Rattle.model.proofs.Validity.{sound-valid}
 use Rattle.codec.specs.Packing.{bits, pack, unpack, recut}
 use Rattle.profile_read.specs.declared.Reading.{Reading}
 use Rattle.profile_read.specs.Reading.{headerOf, recordsIn, judgeRecord, judgeHeader, verdictOfBytes, Reads}
-use Rattle.step.specs.Step.{load}
+use Rattle.step.specs.Step.{load, needAt}
 use Rattle.walk.specs.Walk.{walkBy, visit}
 use Rattle.choose_offer.specs.Found.{pick, beats}
 use Rattle.walk.specs.Chains.{multiples, risingFrom}
@@ -56,7 +56,7 @@ unfolding profileA job verdictOf judgeJob judgeIntervalAndStiffness firstRefused
 sound = refl
 
 rows-are : rowsBelow (jobsOf profileA) allBudgets ≡ rowsA
-unfolding profileA job rowsA three descent upTo walkBy visit pick beats multiples risingFrom climbTo inTurn load cost rate jobLoss entries
+unfolding profileA job rowsA three descent upTo walkBy visit pick beats multiples risingFrom climbTo inTurn load needAt roundedUp cost rate jobLoss entries
 rows-are = refl
 
 table-is : TableOf (jobsOf profileA) rowsA
@@ -64,7 +64,7 @@ table-is = subst (TableOf (jobsOf profileA)) rows-are (descent-table (jobsOf pro
 
 text-is : textA ≡ textOf readingA rowsA
 unfolding textA readingA profileA job rowsA three textOf listingVerdict verdictOf judgeJob judgeIntervalAndStiffness firstRefused
-    orElse refuseIf ifSound entries headerLine rowLines rowLine spacedPeriods spaced decimal digitsOf need loss cost pagesIn sumOver pagesAt running dataOf commitOf lastOf rate jobLoss
+    orElse refuseIf ifSound entries headerLine rowLines rowLine spacedPeriods spaced decimal digitsOf need roundedUp exactNeed loss cost pagesIn sumOver pagesAt running dataOf commitOf lastOf rate jobLoss
 text-is = refl
 
 -- Profile A's text is `textA`.

@@ -8,7 +8,8 @@ use mathlib.Core.List.{List, [], _∷_}
 use lib.ListN.{getD}
 use Rattle.model.specs.declared.Seconds.{Seconds}
 use Rattle.model.specs.declared.Job.{Job}
-use Rattle.model.specs.Model.{seconds, cost, PermittedAfter, roundUp, rate, jobLoss}
+use Rattle.model.specs.Model.{seconds, cost, PermittedAfter, rate, jobLoss}
+use Rattle.model.specs.Rounding.{roundUp}
 use Rattle.model.specs.Most.{mostPages, mostRate, mostLoss}
 use Rattle.model.specs.Valid.{ValidJob, ValidJobs}
 use Rattle.model.proofs.Rounding.{round-up-le}

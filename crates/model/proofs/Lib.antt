@@ -2,6 +2,7 @@ pub mod Allowing
 pub mod Bounds
 pub mod Climb
 pub mod Entries
+pub mod Exact
 pub mod FrontPut
 pub mod Lists
 pub mod Numbers

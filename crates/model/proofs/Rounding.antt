@@ -6,7 +6,7 @@ use mathlib.Core.Path.{_≡_, _∙_, ap}
 use mathlib.Core.Logic.{_↔_}
 use native.Mathlib.Omega.{arith}
 use native.Mathlib.Nat.{le-refl, le-antisymm, le-div-iff-mul-le, div-lt-iff-lt-mul, div-add-mod', add-mul, mul-zero, mod-eq-of-lt, mul-le-mul-right, le-of-mul-le-mul-right}
-use Rattle.model.specs.Model.{roundUp}
+use Rattle.model.specs.Rounding.{roundUp}
 
 pub round-up-le : (a q : ℕ) {b : ℕ} → 1 ≤ b → (roundUp a b ≤ q) ↔ (a ≤ q * b)
 round-up-le a q {b} h = (down, up)

@@ -10,6 +10,7 @@ use lib.ListN.{length, getD, drop, replicate}
 use lib.Dec.{eqb, ltb}
 use Rattle.model.specs.declared.Seconds.{Seconds}
 use Rattle.model.specs.declared.PagesPerHour.{PagesPerHour}
+use Rattle.model.specs.declared.ExactNeed.{ExactNeed}
 use Rattle.model.specs.declared.Job.{Job}
 use Rattle.model.specs.declared.Profile.{Profile}
 use Rattle.model.specs.declared.Counted.{Counted}
@@ -108,13 +109,27 @@ unfoldable pub pagesIn : Seconds → List Job → List Seconds → ℕ
 pagesIn time js [] = 0
 pagesIn time js (t ∷ ts) = sumOver (pagesAt js (t ∷ ts)) (t .0) (time .0 / t .0)
 
--- A fraction rounded up to a whole number; over 0 it is 0, but no permitted period of a valid profile is 0.
-abbrev pub roundUp : ℕ → ℕ → ℕ
-roundUp a b = (a + (b - 1)) / b
+-- So many pages in every t seconds, as hourly pages without rounding: 3,600 times as many over t, which are whole pages per hour and a
+-- remainder over t, below it (02, Ticket 4).
+abbrev pub perHour : ℕ → Seconds → ExactNeed
+perHour pages t = record { whole = pagesPerHour (3600 * pages / t .0); remainder = record { 0 = 3600 * pages % t .0 } }
 
--- The hourly pages of a plan: 3,600 times those of Tn seconds, over Tn, rounded up once (Quantities: need; 02, Ticket 3).
+-- The need of a plan without rounding, as scoring and choosing show it: the pages of Tn seconds, per hour (Quantities: need; 02, Tickets
+-- 3 and 4).
+unfoldable pub exactNeed : List Job → List Seconds → ExactNeed
+exactNeed js ts = let cycle = lastOf (seconds 1) ts in perHour (pagesIn cycle js ts) cycle
+
+-- Zeros, beside a refusal (Refusal numbers).
+abbrev pub zeroNeed : ExactNeed
+zeroNeed = record { whole = pagesPerHour 0; remainder = record { 0 = 0 } }
+
+-- A need rounded up to whole pages. Nothing else rounds one (Quantities: need; 02, Ticket 4).
+unfoldable pub roundedUp : ExactNeed → PagesPerHour
+roundedUp q = pagesPerHour (cond (eqb (q .remainder .0) 0) (q .whole .0) (q .whole .0 + 1))
+
+-- The need where it meets a budget, settles a tie, is a row's start or the detail of 10: rounded up once (Quantities: need; 02, Ticket 4).
 unfoldable pub need : List Job → List Seconds → PagesPerHour
-need js ts = let cycle = lastOf (seconds 1) ts in pagesPerHour (roundUp (3600 * pagesIn cycle js ts) (cycle .0))
+need js ts = roundedUp (exactNeed js ts)
 
 -- Periods fit a budget when their need is at most that (Quantities).
 abbrev pub FitsBudget : List Job → List Seconds → PagesPerHour → Type 0

@@ -14,6 +14,22 @@ pub struct Seconds(pub u32);
 // are never the same type.
 pub struct PagesPerHour(pub u32);
 
+// What a need has beyond its whole pages, in parts of a page per hour, of which the last period Tn makes one: a number below Tn,
+// and no page rate.
+pub struct Remainder(pub u32);
+
+// A need without rounding: whole pages per hour, and the remainder over the last period.
+pub struct ExactNeed {
+    pub whole: PagesPerHour,
+    pub remainder: Remainder,
+}
+
+// What stands for a need beside a refusal.
+pub const ZERO_NEED: ExactNeed = ExactNeed {
+    whole: PagesPerHour(0),
+    remainder: Remainder(0),
+};
+
 // One write job. Every number that can be judged can be given.
 pub struct Job {
     // The shortest and the longest period.

@@ -1,5 +1,5 @@
-// Runs the numbers of document 01, with the need of ticket 3, and a bad input for each refusal, and prints what comes out. The
-// file stdout beside src/ is what must come out.
+// Runs the numbers of document 01, with the need of tickets 3 and 4, and a bad input for each refusal, and prints what comes out.
+// The file stdout beside src/ is what must come out.
 use libc::STDOUT_FILENO;
 use planner::Counted;
 use planner::Job;
@@ -284,7 +284,8 @@ fn show_score(p: Profile, t: u32, u: u32, w: u32) {
     let r = planner::score(p, three(t, u, w));
     let v = r.verdict;
     show(v);
-    number(r.need.0 as u64);
+    number(r.need.whole.0 as u64);
+    number(r.need.remainder.0 as u64);
     number(r.loss);
 }
 
@@ -292,7 +293,8 @@ fn show_choice(p: Profile, budget: u32) {
     let c = planner::choose(p, PagesPerHour(budget));
     let v = c.verdict;
     show(v);
-    field(c.need.0);
+    field(c.need.whole.0);
+    field(c.need.remainder.0);
     io::print_decimal(STDOUT_FILENO, c.loss);
     let ts = c.periods;
     show_periods(ts);

@@ -7,9 +7,11 @@
 pub use choose::Choice;
 pub use choose::choose;
 pub use model::Counted;
+pub use model::ExactNeed;
 pub use model::Job;
 pub use model::PagesPerHour;
 pub use model::Profile;
+pub use model::Remainder;
 pub use model::Seconds;
 pub use model::Verdict;
 pub use profile_read::Reading;
@@ -23,7 +25,6 @@ pub use table::build_table;
 pub use table_lookup::judge_lookup;
 pub use table_lookup::lookup;
 pub use zones::list_zones;
-ghost use mathlib.Core.List.{[], _∷_};
 ghost use Rattle.model.specs.Model.{pagesPerHour};
 ghost use Rattle.profile_read.specs.Reading.{Reads};
 ghost use Rattle.profile_write.specs.Writing.{Writes};
@@ -32,7 +33,7 @@ ghost use Rattle.choose.specs.Choice.{Chosen};
 ghost use Rattle.zones.specs.Zones.{Listed};
 ghost use Rattle.table.specs.Table.{Built};
 ghost use Rattle.table_lookup.specs.Lookup.{Locates};
-ghost use Rattle.exchange.specs.Numbers.{profileIn, numbersOf, eightPeriodsIn, answerOf};
+ghost use Rattle.exchange.specs.Numbers.{profileIn, numbersOf, eightPeriodsIn, scoreOf, answerOf};
 ghost use Rattle.planner.specs.ForC.{CountsForC, LeavesForC};
 
 // The values that a profile's bytes stand for, into 41 numbers.
@@ -59,23 +60,24 @@ pub extern "C" fn charopleth_write(n: u32, jobs: &[u32; 40], room: &mut [u8]) ->
     exchange::counted(c)
 }
 
-// The need and the loss of given periods, into two numbers.
+// The need of given periods, whole pages and remainder, and their loss, into three numbers.
 #[no_mangle]
 pub extern "C" fn charopleth_score(
     n: u32,
     jobs: &[u32; 40],
     periods: &[u32; 8],
-    answer: &mut [u64; 2],
+    answer: &mut [u64; 3],
 ) -> u64
-    ensures { λ r. ⌜ LeavesForC (Scores (profileIn n (now (jobs .entry))) (eightPeriodsIn (now (periods .entry)))) (λ a. a .verdict) (λ a. a .need .0 ∷ a .loss ∷ []) (now (answer .entry)) r (now (answer .exit)) ⌝ }
+    ensures { λ r. ⌜ LeavesForC (Scores (profileIn n (now (jobs .entry))) (eightPeriodsIn (now (periods .entry)))) (λ a. a .verdict) (λ a. scoreOf (a .need) (a .loss)) (now (answer .entry)) r (now (answer .exit)) ⌝ }
 {
     let s = score::score(exchange::profile(n, jobs), exchange::as_periods(periods));
     let v = s.verdict;
     let Verdict::Sound = v else {
         return exchange::result(v);
     };
-    answer[0] = s.need.0 as u64;
-    answer[1] = s.loss;
+    answer[0] = s.need.whole.0 as u64;
+    answer[1] = s.need.remainder.0 as u64;
+    answer[2] = s.loss;
     0
 }
 
@@ -85,7 +87,7 @@ pub extern "C" fn charopleth_choose(
     n: u32,
     jobs: &[u32; 40],
     budget: u32,
-    answer: &mut [u64; 10],
+    answer: &mut [u64; 11],
 ) -> u64
     ensures { λ r. ⌜ LeavesForC (Chosen (profileIn n (now (jobs .entry))) (pagesPerHour budget)) (λ a. a .verdict) (λ a. answerOf (a .need) (a .loss) (a .periods)) (now (answer .entry)) r (now (answer .exit)) ⌝ }
 {
@@ -94,8 +96,9 @@ pub extern "C" fn charopleth_choose(
     let Verdict::Sound = v else {
         return exchange::result(v);
     };
+    let need = c.need;
     let periods = c.periods;
-    exchange_put::put_answer(c.need, c.loss, periods, answer);
+    exchange_put::put_answer(need, c.loss, periods, answer);
     0
 }
 

@@ -10,7 +10,7 @@ use Rattle.model.specs.declared.Job.{Job}
 use Rattle.model.specs.declared.Profile.{Profile}
 use Rattle.model.specs.declared.Verdict.{Verdict}
 use Rattle.model.specs.declared.Verdict.the-variants.{Sound}
-use Rattle.model.specs.Model.{seconds, pagesPerHour, noJob, jobsOf, periodsOf, Permitted, need, loss, numberOf, refuseIf, orElse, ifSound, verdictOf}
+use Rattle.model.specs.Model.{seconds, noJob, jobsOf, periodsOf, Permitted, exactNeed, zeroNeed, loss, numberOf, refuseIf, orElse, ifSound, verdictOf}
 use Rattle.model.proofs.Entries.{length-entries}
 use Rattle.model.proofs.ProfileFirst.{sound-or-not, computed-first}
 use Rattle.model.proofs.Verdicts.{sound-of-zero, both-sound, beside-sound}
@@ -22,7 +22,7 @@ use Rattle.score.proofs.OneOutcome.{scores-one}
 
 -- need and loss beside a verdict
 unfoldable pub scoredBy : List Job → List Seconds → Verdict → Scored
-scoredBy js ts v = record { verdict = v; need = ifSound v (need js ts) (pagesPerHour 0); loss = ifSound v (loss js ts) 0 }
+scoredBy js ts v = record { verdict = v; need = ifSound v (exactNeed js ts) zeroNeed; loss = ifSound v (loss js ts) 0 }
 
 unfoldable pub scoreFor : Profile → List Seconds → Scored
 scoreFor p ts = ifSound (verdictOf p) (scoredBy (jobsOf p) (periodsOf p ts) (firstUnpermitted 0 (seconds 1) (jobsOf p) (periodsOf p ts))) (noScore (verdictOf p))

@@ -10,13 +10,13 @@ use lib.ListN.{getD}
 use Rattle.model.specs.declared.Seconds.{Seconds}
 use Rattle.model.specs.declared.Profile.{Profile}
 use Rattle.model.specs.declared.Verdict.the-variants.{Sound, Periods}
-use Rattle.model.specs.Model.{seconds, pagesPerHour, noJob, jobsOf, periodsOf, Allowed, jobLoss}
+use Rattle.model.specs.Model.{seconds, noJob, jobsOf, periodsOf, Allowed, perHour, jobLoss}
 use Rattle.model.specs.Testing.{allows}
 use Rattle.model.specs.Valid.{Valid}
 use Rattle.model.proofs.Allowing.{allowed-back}
 use Rattle.model.proofs.Entries.{entries-step}
-use Rattle.step.specs.Step.{loadAt, carried, needAt}
-use Rattle.step.proofs.Along.{jobsFrom, periodsFrom, Along, along-starts, along-next, along-permitted, along-need, along-lost}
+use Rattle.step.specs.Step.{loadAt, carried}
+use Rattle.step.proofs.Along.{jobsFrom, periodsFrom, Along, along-starts, along-next, along-permitted, along-exact, along-lost}
 use Rattle.score.specs.Scoring.{noScore, FirstOut, here, later, Scoring, permitted, first-out}
 
 -- before a turn: what the jobs before the k-th have written and lost is carried along, and the first period that is out, if any,
@@ -52,5 +52,5 @@ module _ {p : Profile} {ts : List Seconds} {before : Seconds} {written lost k : 
 
   -- past the last job
   pub all-reckoned : Valid p → p .n ≤ k →
-      Scoring (jobsOf p) (periodsOf p ts) (record { verdict = Sound; need = pagesPerHour (needAt written before); loss = lost })
-  all-reckoned v past = rw (along-need (l .along) past v, along-lost (l .along) past) (permitted (along-permitted (l .along) past))
+      Scoring (jobsOf p) (periodsOf p ts) (record { verdict = Sound; need = perHour written before; loss = lost })
+  all-reckoned v past = rw (along-exact (l .along) past v, along-lost (l .along) past) (permitted (along-permitted (l .along) past))

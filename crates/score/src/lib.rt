@@ -2,18 +2,19 @@
 //
 // specs/Scoring.antt says what is answered, with the model's need and loss; crate step says what each job adds to them.
 // Nothing is assumed, and no public function has a `requires`.
-use model::PagesPerHour;
+use model::ExactNeed;
 use model::Profile;
 use model::Seconds;
 use model::Verdict;
+use model::ZERO_NEED;
 ghost use Rattle.model.specs.Model.{jobsOf, periodsOf};
 ghost use Rattle.model.specs.Valid.{Valid};
 ghost use Rattle.score.specs.Scoring.{Scoring, Scores};
 
-// What scoring answers: need and loss, zeros beside a refusal.
+// What scoring answers: need, without rounding, and loss; zeros beside a refusal.
 pub struct Scored {
     pub verdict: Verdict,
-    pub need: PagesPerHour,
+    pub need: ExactNeed,
     pub loss: u64,
 }
 
@@ -25,7 +26,7 @@ pub fn score(p: Profile, periods: [Seconds; 8]) -> Scored
     let Verdict::Sound = v else {
         return Scored {
             verdict: v,
-            need: PagesPerHour(0),
+            need: ZERO_NEED,
             loss: 0,
         };
     };
@@ -50,7 +51,7 @@ fn reckon(p: Profile, periods: [Seconds; 8]) -> Scored
         if !model::allowed(j, before, t) {
             return Scored {
                 verdict: Verdict::Periods((k + 1) as u32),
-                need: PagesPerHour(0),
+                need: ZERO_NEED,
                 loss: 0,
             };
         }
@@ -62,7 +63,7 @@ fn reckon(p: Profile, periods: [Seconds; 8]) -> Scored
     }
     Scored {
         verdict: Verdict::Sound,
-        need: step::need_of(written, before),
+        need: step::exact_need(written, before),
         loss: lost,
     }
 }

@@ -1,6 +1,6 @@
 -- Job after job through a profile's periods: what is carried along, with what the jobs still to come add to it, is the whole plan's.
 -- So past the last job the periods are permitted, and what was carried along is the model's need and loss. Assumes nothing.
-use mathlib.Core.Path.{_≡_, sym, _∙_, ap, ap₂, subst}
+use mathlib.Core.Path.{_≡_, refl, sym, _∙_, ap, ap₂, subst}
 use mathlib.Core.Logic.{_↔_}
 use mathlib.Core.List.{List, []}
 use Prim.Native.Nat.{ℕ, _+_, _*_, _-_, _^_, _≤_, _<_, max}
@@ -11,15 +11,16 @@ use lib.ListN.{getD}
 use Rattle.model.specs.declared.Seconds.{Seconds}
 use Rattle.model.specs.declared.Job.{Job}
 use Rattle.model.specs.declared.Profile.{Profile}
-use Rattle.model.specs.Model.{seconds, pagesPerHour, noJob, entries, jobsOf, periodsOf, Allowed, PermittedAfter, Permitted, lastOf, roundUp, need, jobLoss, loss}
+use Rattle.model.specs.Model.{seconds, pagesPerHour, noJob, entries, jobsOf, periodsOf, Allowed, PermittedAfter, Permitted, lastOf, perHour, exactNeed, need, jobLoss, loss}
 use Rattle.model.specs.Most.{mostPages}
 use Rattle.model.specs.Valid.{Valid}
 use Rattle.model.proofs.Bounds.{job-loss-bound, eight-losses}
 use Rattle.model.proofs.Entries.{entries-step, entries-end}
 use Rattle.model.proofs.Validity.{job-valid-at}
-use Rattle.step.specs.Step.{greatestBefore, loadAt, carried, pagesAfter, needAfter, needAt, NeedFits, Bounded}
+use Rattle.step.specs.Step.{greatestBefore, loadAt, carried, pagesAfter, needAt, NeedFits, Bounded}
 use Rattle.step.proofs.Bounds.{start-bounded, next-bounded, bounded-fits}
-use Rattle.step.proofs.Shared.{need-is}
+use Rattle.step.proofs.Fits.{need-rounded}
+use Rattle.step.proofs.Shared.{exact-need-carried}
 
 -- the jobs and the periods from place i on
 abbrev pub jobsFrom : Profile → ℕ → List Job
@@ -143,13 +144,16 @@ module _ {p : Profile} {ts : List Seconds} {i : ℕ} {before : Seconds} {written
     pub along-permitted : Permitted (jobsOf p) (periodsOf p ts)
     along-permitted = a .permitted .1 (rw (no-job, no-period) tt)
 
-    pub along-need : Valid p → pagesPerHour (needAt written before) ≡ need (jobsOf p) (periodsOf p ts)
-    unfolding pagesAfter lastOf needAfter needAt
-    along-need v =
+    pub along-exact : Valid p → perHour written before ≡ exactNeed (jobsOf p) (periodsOf p ts)
+    unfolding pagesAfter lastOf
+    along-exact v =
         let all-pages = a .pages ∙ at-end (greatestBefore p i) no-job no-period in
         let all-last = a .last ∙ ap (lastOf before) no-period in
-        sym (need-is (jobsOf p) (periodsOf p ts) (v .jobs) along-permitted
-        ∙ ap₂ (λ (w : ℕ) (t : Seconds). pagesPerHour (roundUp (3600 * w) (t .0))) all-pages all-last)
+        sym (exact-need-carried (jobsOf p) (periodsOf p ts) (v .jobs) along-permitted ∙ ap₂ perHour all-pages all-last)
+
+    pub along-need : Valid p → pagesPerHour (needAt written before) ≡ need (jobsOf p) (periodsOf p ts)
+    unfolding need
+    along-need v = sym (need-rounded written before (sym (along-exact v)) refl)
 
     pub along-lost : lost ≡ loss (jobsOf p) (periodsOf p ts)
     unfolding loss

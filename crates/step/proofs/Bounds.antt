@@ -12,6 +12,7 @@ use Rattle.model.specs.Valid.{ValidJob}
 use Rattle.model.proofs.Bounds.{job-loss-bound, need-bound as cycle-need-bound}
 use Rattle.model.proofs.Rounding.{multiple-is}
 use Rattle.step.specs.Step.{load, carried, needAt, NeedFits, Bounded}
+use Rattle.step.proofs.Fits.{need-at-is}
 
 pub load-bound : (greatest : ℕ) (j : Job) → ValidJob j → load greatest j ≤ mostPages
 unfolding load
@@ -34,8 +35,7 @@ module _ {i : ℕ} {before : Seconds} {written lost : ℕ} (h : Bounded i before
 
   -- for eight jobs 1,887,379,200
   pub need-bound : 1 ≤ before .0 → needAt written before ≤ mostRate * i
-  unfolding needAt
-  need-bound pos = cycle-need-bound written (before .0) i pos (let p = h .pages-to in omega arith)
+  need-bound pos = rw (need-at-is written before pos) (cycle-need-bound written (before .0) i pos (let p = h .pages-to in omega arith))
 
   -- the pages of eight jobs are few enough to be carried on
   pub bounded-fits : i ≤ 8 → 1 ≤ before .0 → before .0 ≤ 3600 → NeedFits written before

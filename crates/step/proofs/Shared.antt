@@ -12,11 +12,15 @@ use lib.Dec.{eqb}
 use lib.Arith.{mod-mul}
 use borrow.Author.Tests.{ne-eqb, eqb-true, eqb-false}
 use Rattle.model.specs.declared.Seconds.{Seconds}
+use Rattle.model.specs.declared.PagesPerHour.{PagesPerHour}
 use Rattle.model.specs.declared.Job.{Job}
-use Rattle.model.specs.Model.{seconds, pagesPerHour, PermittedAfter, Permitted, lastOf, running, dataOf, commitOf, pagesAt, sumOver, pagesIn, roundUp, need}
+use Rattle.model.specs.Model.{seconds, pagesPerHour, PermittedAfter, Permitted, lastOf, running, dataOf, commitOf, pagesAt, sumOver, pagesIn, perHour, exactNeed, need}
+use Rattle.model.specs.Rounding.{roundUp}
 use Rattle.model.specs.Valid.{ValidJobs}
 use Rattle.model.proofs.Rounding.{round-up-scaled, multiple-is, multiple-above, factors}
+use Rattle.model.proofs.Exact.{remainder-below, need-as-it-was}
 use Rattle.step.specs.Step.{load, loadsIn, pagesAfter, needAfter}
+use Rattle.step.proofs.Fits.{need-rounded}
 use Rattle.step.proofs.Pages.{multiple-trans, last-multiple, last-positive, pages-after}
 
 -- what these jobs add at a second, each with its load
@@ -190,23 +194,31 @@ loads-times k g before (j ∷ js) (t ∷ ts) v h =
     let later = loads-times k (max g (j .metadata)) t js ts (v .1) (h .1) in
     omega arith
 
--- So the need is what is carried from job to job.
+-- So the need is what is carried from job to job, exactly and rounded up.
 module _ (js : List Job) (ts : List Seconds) (v : ValidJobs js) (h : Permitted js ts) where
-  pub need-is : need js ts ≡ pagesPerHour (needAfter 0 0 (seconds 1) js ts)
-  unfolding need needAfter
-  need-is =
+  pub exact-need-carried : exactNeed js ts ≡ perHour (pagesAfter 0 0 (seconds 1) js ts) (lastOf (seconds 1) ts)
+  unfolding exactNeed
+  exact-need-carried =
       let p = pages-after 0 0 (seconds 1) js ts v (omega arith) h in
       let shared = pages-by-load js ts v h (lastOf (seconds 1) ts) in
       let e : pagesIn (lastOf (seconds 1) ts) js ts ≡ pagesAfter 0 0 (seconds 1) js ts = omega arith in
-      ap (λ (x : ℕ). pagesPerHour (roundUp (3600 * x) (lastOf (seconds 1) ts .0))) e
+      ap (λ (x : ℕ). perHour x (lastOf (seconds 1) ts)) e
+
+  pub need-is : need js ts ≡ pagesPerHour (needAfter 0 0 (seconds 1) js ts)
+  unfolding need needAfter
+  need-is = need-rounded _ _ exact-need-carried refl
+
+  -- Its remainder is below Tn.
+  pub exact-remainder-below : exactNeed js ts .remainder .0 < lastOf (seconds 1) ts .0
+  unfolding exactNeed
+  exact-remainder-below = remainder-below _ _ (last-positive (seconds 1) js ts v (omega arith) h)
 
   -- And it is the same over any number of cycles, a cycle being Tn seconds, which every period divides.
   pub any-cycles : (k : ℕ) → 1 ≤ k → let last = lastOf (seconds 1) ts in roundUp (3600 * pagesIn (seconds (k * last .0)) js ts) (k * last .0) ≡ need js ts .0
-  unfolding need
   any-cycles k pos =
       let last = lastOf (seconds 1) ts in
       let pages = pagesIn last js ts in
       let one = pages-by-load js ts v h last in
       let times : pagesIn (seconds (k * last .0)) js ts ≡ k * pages = pages-by-load js ts v h (seconds (k * last .0)) ∙ loads-times k 0 (seconds 1) js ts v h ∙ ap (λ (x : ℕ). k * x) (sym one) in
       let all : 3600 * pagesIn (seconds (k * last .0)) js ts ≡ 3600 * pages * k = omega arith in
-      ap (λ (x : ℕ). roundUp x (k * last .0)) all ∙ round-up-scaled (3600 * pages) (last .0) k (last-positive (seconds 1) js ts v (omega arith) h) pos
+      ap (λ (x : ℕ). roundUp x (k * last .0)) all ∙ round-up-scaled (3600 * pages) (last .0) k (last-positive (seconds 1) js ts v (omega arith) h) pos ∙ ap (λ (q : PagesPerHour). q .0) (sym (need-as-it-was js ts))

@@ -9,7 +9,7 @@ use Rattle.model.specs.declared.Seconds.{Seconds}
 use Rattle.model.specs.declared.PagesPerHour.{PagesPerHour}
 use Rattle.model.specs.declared.Job.{Job}
 use Rattle.model.specs.declared.Profile.{Profile}
-use Rattle.model.specs.Model.{pagesPerHour, noJob, lastOf, roundUp}
+use Rattle.model.specs.Model.{pagesPerHour, noJob, lastOf, perHour, roundedUp}
 use Rattle.model.specs.Most.{mostPages, mostRate, mostLoss}
 
 -- What need takes from a run of a job, where `greatest` is the greatest metadata of the jobs before it: its data, and what its metadata
@@ -48,13 +48,13 @@ pagesAfter greatest written before [] ts = written
 pagesAfter greatest written before (j ∷ js) [] = written
 pagesAfter greatest written before (j ∷ js) (t ∷ ts) = pagesAfter (max greatest (j .metadata)) (carried written before t (load greatest j)) t js ts
 
--- The need of a plan so completed: its hourly pages, rounded up.
-unfoldable pub needAfter : ℕ → ℕ → Seconds → List Job → List Seconds → ℕ
-needAfter greatest written before js ts = roundUp (3600 * pagesAfter greatest written before js ts) (lastOf before ts .0)
-
--- The need of a plan that writes this much in this time.
+-- The need of a plan that writes this much in this time, rounded up.
 unfoldable pub needAt : ℕ → Seconds → ℕ
-needAt written t = roundUp (3600 * written) (t .0)
+needAt written t = roundedUp (perHour written t) .0
+
+-- The need of a plan so completed.
+unfoldable pub needAfter : ℕ → ℕ → Seconds → List Job → List Seconds → ℕ
+needAfter greatest written before js ts = needAt (pagesAfter greatest written before js ts) (lastOf before ts)
 
 -- A period, and what is written in it, for which that fits.
 pub record NeedFits (written : ℕ) (t : Seconds) : Type 0 where

@@ -3,16 +3,18 @@
 //
 // specs/Step.antt says what is reckoned, and proofs/ that so carried along it is the model's need, counted moment by moment, and
 // its loss. These functions serve other crates of the planner, and their callers meet what they require. Nothing is assumed.
+use model::ExactNeed;
 use model::Job;
 use model::PagesPerHour;
 use model::Profile;
+use model::Remainder;
 use model::Seconds;
 ghost use mathlib.Core.Path.{_≡_};
 ghost use Prim.Native.Nat.{_≤_, max};
-ghost use Rattle.model.specs.Model.{pagesPerHour, cost, rate, jobLoss};
-ghost use Rattle.model.specs.Most.{mostPages};
+ghost use Rattle.model.specs.Model.{cost, perHour, roundedUp, rate, jobLoss};
+ghost use Rattle.model.specs.Most.{mostPages, mostNeed};
 ghost use Rattle.model.specs.Valid.{Valid, ValidJob};
-ghost use Rattle.step.specs.Step.{load, LoadsTo, carried, needAt, NeedFits, hourly, lossAt, LossFits};
+ghost use Rattle.step.specs.Step.{load, LoadsTo, carried, NeedFits, hourly, lossAt, LossFits};
 
 // The pages of a run of each job, as need counts them: from the first job on, since a job's count depends on those before it.
 pub fn loads_of(p: Profile) -> [u32; 8]
@@ -68,13 +70,29 @@ pub fn carry(written: u64, before: Seconds, t: Seconds, own: u32) -> u64
     written * ((t.0 / before.0) as u64) + (own as u64)
 }
 
-// The need of a plan that writes so many pages in t seconds.
-pub fn need_of(written: u64, t: Seconds) -> PagesPerHour
+// The need of a plan that writes so many pages in t seconds, without rounding.
+pub fn exact_need(written: u64, t: Seconds) -> ExactNeed
     requires { ⌜ NeedFits written t ⌝ }
-    ensures { λ r. ⌜ r ≡ pagesPerHour (needAt written t) ⌝ }
+    ensures { λ r. ⌜ r ≡ perHour written t ⌝ }
 {
     let cycle = t.0 as u64;
-    PagesPerHour(((3600 * written + (cycle - 1)) / cycle) as u32)
+    let hourly = 3600 * written;
+    ExactNeed {
+        whole: PagesPerHour((hourly / cycle) as u32),
+        remainder: Remainder((hourly % cycle) as u32),
+    }
+}
+
+// A need rounded up to whole pages. This is called where a need meets a budget, settles a tie, becomes a start or the detail of 10,
+// or is held against a start, and nowhere else.
+pub fn rounded_up(need: ExactNeed) -> PagesPerHour
+    requires { ⌜ need .whole .0 ≤ mostNeed ⌝ }
+    ensures { λ r. ⌜ r ≡ roundedUp need ⌝ }
+{
+    if need.remainder.0 == 0 {
+        return PagesPerHour(need.whole.0);
+    }
+    PagesPerHour(need.whole.0 + 1)
 }
 
 // The hourly rate of so many pages in every t seconds.

@@ -14,6 +14,7 @@ use Rattle.model.specs.Model.{seconds, Permitted, lastOf, pagesIn, need, FitsBu
 use Rattle.model.specs.Most.{mostPages}
 use Rattle.model.specs.Valid.{ValidJobs}
 use Rattle.model.proofs.Bounds.{need-bound}
+use Rattle.model.proofs.Exact.{need-as-it-was}
 use Rattle.walk.specs.Walk.{walk, start}
 use Rattle.choose_offer.specs.Found.{Found, nothing, found, pick}
 use Rattle.choose_walk.specs.Best.{BestOrNone}
@@ -82,12 +83,11 @@ loads-bound g cycle (j ∷ js) (t ∷ ts) v =
 
 -- Every permitted list of at most eight jobs fits some 32-bit budget.
 pub need-small : (js : List Job) (ts : List Seconds) → ValidJobs js → length js ≤ 8 → Permitted js ts → need js ts .0 < 2 ^ 32
-unfolding need
 need-small js ts v few h =
     let cycle = lastOf (seconds 1) ts in
     let written : pagesIn cycle js ts ≤ mostPages * cycle .0 * length js = rw (pages-by-load js ts v h cycle) (loads-bound 0 cycle js ts v) in
     let most = need-bound (pagesIn cycle js ts) (cycle .0) (length js) (last-positive (seconds 1) js ts v (le-refl 1) h) written in
-    omega arith
+    rw (need-as-it-was js ts) (omega arith)
 
 -- the rows of a table
 module _ {js : List Job} {rows : List (List Seconds)} (t : TableOf js rows) where

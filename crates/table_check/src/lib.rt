@@ -53,7 +53,7 @@ pub fn first_bad_row(p: Profile, table: &[u8]) -> usize
             before = t;
             i += 1;
         }
-        if step::need_of(written, before).0 != start.0 {
+        if step::rounded_up(step::exact_need(written, before)).0 != start.0 {
             break 'rows k + 1;
         }
         if !table_row::may_follow(k, start_before, loss_before, start, lost) {

@@ -69,7 +69,8 @@ pub fn enter_plan(
     requires { ⌜ Standing n (now periods) (now rows) (now marks) ⌝ }
     ensures { λ _. ⌜ Enters n budget t written lost (now (periods .entry)) (now (rows .entry)) (now (marks .entry)) (now (rows .exit)) (now (marks .exit)) ⌝ }
 {
-    let need = step::need_of(written, t);
+    let exact = step::exact_need(written, t);
+    let need = step::rounded_up(exact);
     if budget.0 < need.0 {
         return;
     }

@@ -72,6 +72,7 @@ module _ (p : Profile) (v : Valid p) {rows : List (List Seconds)} (t : TableOf (
         later j after to (no gt) = omega (arith, start-number p v t (laid-alone (jobsOf p) rows) j to)
 
     best-shown : (i : ℕ) → i < length rows → getD rows i [] ≡ ts → Shows p (tableBytes (jobsOf p) rows) i (answered (jobsOf p) ts)
+    unfolding need
     best-shown i less e = record {
       start = row-start p v t (laid-alone (jobsOf p) rows) i less ∙ ap (need (jobsOf p)) e;
       periods = row-periods p v t (laid-alone (jobsOf p) rows) i less ∙ ap (padded (seconds 0)) e;

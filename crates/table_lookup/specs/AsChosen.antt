@@ -7,14 +7,15 @@ use Rattle.model.specs.declared.PagesPerHour.{PagesPerHour}
 use Rattle.model.specs.declared.Profile.{Profile}
 use Rattle.model.specs.declared.Counted.{Counted}
 use Rattle.model.specs.declared.Verdict.the-variants.{Sound}
+use Rattle.model.specs.Model.{roundedUp}
 use Rattle.choose.specs.declared.Choice.{Choice}
 use Rattle.choose.specs.Choice.{Chosen}
 use Rattle.table_row.specs.Table.{startAt, periodsAt, lossAt}
 use Rattle.table_lookup.specs.Lookup.{Locates}
 
--- Row k of a table's bytes is a choice's plan.
+-- Row k of a table's bytes is a choice's plan: it starts at the need, rounded up, and has the periods and the loss.
 pub record Shows (p : Profile) (bytes : List ℕ) (k : ℕ) (c : Choice) : Type 0 where
-  pub start : startAt bytes k ≡ c .need
+  pub start : startAt bytes k ≡ roundedUp (c .need)
   pub periods : periodsAt bytes k ≡ c .periods
   pub loss : lossAt p bytes k ≡ c .loss
 

@@ -7,7 +7,8 @@ use native.Mathlib.Omega.{arith}
 use native.Mathlib.Nat.{le-trans, le-div-iff-mul-le, div-mul-le-self, mul-le-mul-right, mul-mod-left}
 use Rattle.model.specs.declared.Seconds.{Seconds}
 use Rattle.model.specs.declared.Job.{Job}
-use Rattle.model.specs.Model.{seconds, Allowed, PermittedAfter, roundUp}
+use Rattle.model.specs.Model.{seconds, Allowed, PermittedAfter}
+use Rattle.model.specs.Rounding.{roundUp}
 use Rattle.model.specs.Climb.{climbTo}
 use Rattle.model.specs.Valid.{ValidJobs}
 use Rattle.model.proofs.Climb.{MultipleIn, climb-step, climb-end, climb-from, climb-rising, climb-in, climb-has}

@@ -12,7 +12,8 @@ use Rattle.model.specs.declared.Seconds.{Seconds}
 use Rattle.model.specs.declared.Job.{Job}
 use Rattle.model.specs.Most.{mostPages, mostLoss}
 use Rattle.model.proofs.Bounds.{job-loss-bound}
-use Rattle.model.specs.Model.{seconds, roundUp, jobLoss}
+use Rattle.model.specs.Model.{seconds, jobLoss}
+use Rattle.model.specs.Rounding.{roundUp}
 use Rattle.step.specs.Step.{carried, needAt, NeedFits}
 use Rattle.walk.specs.declared.Tries.{Tries}
 use Rattle.walk.specs.Walk.{node, next, walkBy, walk, walkFrom}
@@ -78,7 +79,7 @@ module _ {A : Type 0} {f : ℕ → ℕ → List Seconds → A → A} {spans page
     -- the last job has its period: one plan
     pub up-leaf : {ps : List ℕ} {acc acc′ : A} → i ≡ n → acc′ ≡ f (needAt written step) lost (periodsIn n ps) acc →
         Walked f spans pages rates stiffnesses i n step written lost ps ps acc acc′
-    unfolding needAt walkBy
+    unfolding walkBy
     up-leaf {ps} {acc} {acc′} e o = record { before = refl; is = one }
       where
         one : (g : ℕ) (js : List Job) → Held spans pages rates stiffnesses i n g js → acc′ ≡ walk f js (node step g written lost (periodsIn i ps)) acc

@@ -9,7 +9,7 @@ use lib.ListN.{getD}
 use Rattle.model.specs.declared.Seconds.{Seconds}
 use Rattle.model.specs.declared.Job.{Job}
 use Rattle.model.specs.Most.{mostPages, mostNeed, mostLoss}
-use Rattle.model.specs.Model.{seconds, Allowed, roundUp}
+use Rattle.model.specs.Model.{seconds, Allowed}
 use Rattle.step.specs.Step.{load, carried, needAt, NeedFits}
 use Rattle.step.proofs.Bounds.{load-bound, start-bounded, need-bound, next-bounded, bounded-fits}
 use Rattle.walk.specs.Walk.{needFloor, Node, node, walkBy}
@@ -24,8 +24,8 @@ use Rattle.walk.proofs.Held.{held-open, held-at, held-valid}
 module _ {spans pages rates stiffnesses : List ℕ} {i n : ℕ} where
   -- the need floor is one of the jobs' own
   pub need-floor-is : (greatest : ℕ) (js : List Job) (t : Seconds) (written : ℕ) → Held spans pages rates stiffnesses i n greatest js → needAt written t + getD rates (8 + i) 0 ≡ needFloor greatest written t js
-  unfolding needAt needFloor
-  need-floor-is g js t written h = ap (λ (x : ℕ). roundUp (3600 * written) (t .0) + x) (h .needs)
+  unfolding needFloor
+  need-floor-is g js t written h = ap (λ (x : ℕ). needAt written t + x) (h .needs)
 
   -- an interval of a later job that holds no multiple of t
   pub unreached : {order : Seconds → Job → List Seconds} → ListsAllowed order → {A : Type 0} (f : ℕ → ℕ → List Seconds → A → A) (acc : A) (js : List Job) (p : Node) →

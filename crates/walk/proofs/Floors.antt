@@ -8,11 +8,13 @@ use native.Mathlib.Omega.{arith}
 use native.Mathlib.Nat.{le-refl, le-trans, add-le-add, mul-le-mul-left, mul-le-mul-right, pow-le-pow-left, div-mul-le-self, le-div-iff-mul-le, le-of-mul-le-mul-right, mod-self}
 use Rattle.model.specs.declared.Seconds.{Seconds}
 use Rattle.model.specs.declared.Job.{Job}
-use Rattle.model.specs.Model.{cost, Allowed, PermittedAfter, lastOf, roundUp, rate, jobLoss, loss}
+use Rattle.model.specs.Model.{cost, Allowed, PermittedAfter, lastOf, rate, jobLoss, loss}
+use Rattle.model.specs.Rounding.{roundUp}
 use Rattle.model.specs.Valid.{ValidJob, ValidJobs}
 use Rattle.step.specs.Step.{load, carried, pagesAfter, needAfter}
 use Rattle.walk.specs.Walk.{lossFloor, leastNeeds, needFloor}
 use Rattle.model.proofs.Rounding.{round-up-le, round-up-above, multiple-is, multiple-above, split-product}
+use Rattle.step.proofs.Fits.{need-at-is}
 use Rattle.step.proofs.Pages.{multiple-trans}
 
 pub quotient-falls : (a : ℕ) {t u : ℕ} → 1 ≤ t → t ≤ u → a / u ≤ a / t
@@ -79,7 +81,7 @@ need-floor-step g pages t u j js v pos a =
     let whole : more ≤ roundUp more (u .0) * u .0 = round-up-above more u-pos in
     let parts : 3600 * pages * k + 3600 * load g j ≤ roundUp more (u .0) * u .0 = omega arith in
     let floor = one-more (3600 * pages) q (roundUp more (u .0)) k pos u-pos is small parts in
-    omega arith
+    omega (arith, floor, need-at-is pages t pos, need-at-is (carried pages t u (load g j)) u u-pos)
 
 pub need-floor : (greatest pages : ℕ) (t : Seconds) (js : List Job) (ts : List Seconds) → ValidJobs js → 1 ≤ t .0 → PermittedAfter t js ts → needFloor greatest pages t js ≤ needAfter greatest pages t js ts
 unfolding needFloor leastNeeds needAfter pagesAfter lastOf

@@ -11,15 +11,17 @@ use native.Mathlib.Nat.{mul-le-mul-left, mul-le-mul-right, mul-lt-mul-of-pos-rig
 use native.Mathlib.Decide.{ℕ-discrete}
 use Rattle.model.specs.declared.Seconds.{Seconds}
 use Rattle.model.specs.declared.Job.{Job}
-use Rattle.model.specs.Model.{seconds, cost, PermittedAfter, lastOf, roundUp, rate, jobLoss, loss}
+use Rattle.model.specs.Model.{seconds, cost, PermittedAfter, lastOf, rate, jobLoss, loss}
+use Rattle.model.specs.Rounding.{roundUp}
 use Rattle.model.specs.Valid.{ValidJobs}
-use Rattle.step.specs.Step.{load, carried, pagesAfter, needAfter}
+use Rattle.step.specs.Step.{load, carried, pagesAfter, needAt, needAfter}
 use Rattle.walk.specs.Chains.{chainsBy}
 use Rattle.walk.specs.Walk.{visit, Node, next, walkBy}
 use Rattle.walk.specs.Steps.{PassedOver}
 use Rattle.model.proofs.Rounding.{round-up-le, round-up-above, round-up-scaled, multiple-is, factors}
 use Rattle.walk.specs.Laws.{ListsAllowed, Pageless, Unmoved, Settled}
 use Rattle.walk.proofs.Chains.{chains-all}
+use Rattle.step.proofs.Fits.{need-at-is}
 use Rattle.step.proofs.Pages.{multiple-trans, quotient-trans}
 use Rattle.walk.proofs.Walk.{atPlan, walk-visits, walk-kept}
 
@@ -51,13 +53,13 @@ module _ (u t : Seconds) (pos : 1 ≤ u .0) (t-pos : 1 ≤ t .0) (multiple : t .
       let is : t .0 ≡ k * u .0 = multiple-is (t .0) (u .0) multiple in
       let k-pos : 1 ≤ k = factors k (u .0) t-pos is .0 in
       let e : 3600 * (pages * k) ≡ 3600 * pages * k = omega arith in
-      ap₂ roundUp e is ∙ round-up-scaled (3600 * pages) (u .0) k pos k-pos
+      need-at-is (pages * k) t t-pos ∙ ap₂ roundUp e is ∙ round-up-scaled (3600 * pages) (u .0) k pos k-pos ∙ sym (need-at-is pages u pos)
   need-scaled g pages [] (s ∷ ts) h = absurd h
   need-scaled g pages (j ∷ js) [] h = absurd h
   need-scaled g pages (j ∷ js) (s ∷ ts) h =
       let whole : s .0 / u .0 ≡ t .0 / u .0 * (s .0 / t .0) = quotient-trans (u .0) (t .0) (s .0) pos multiple (h .0 .multiple) in
       let moved : pages * (t .0 / u .0) * (s .0 / t .0) ≡ pages * (s .0 / u .0) = mul-assoc pages (t .0 / u .0) (s .0 / t .0) ∙ ap (λ (x : ℕ). pages * x) (sym whole) in
-      ap (λ (x : ℕ). roundUp (3600 * pagesAfter (max g (j .metadata)) (x + load g j) s js ts) (lastOf s ts .0)) moved
+      ap (λ (x : ℕ). needAt (pagesAfter (max g (j .metadata)) (x + load g j) s js ts) (lastOf s ts)) moved
 
 -- without pages every period loses the same
 pub pageless-loss : (j : Job) (t u : Seconds) → cost j ≡ 0 → jobLoss j t ≡ jobLoss j u

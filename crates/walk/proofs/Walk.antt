@@ -8,9 +8,9 @@ use native.Mathlib.Nat.{le-refl, le-trans, add-assoc, add-zero, zero-add}
 use lib.Seq.{append-snoc}
 use Rattle.model.specs.declared.Seconds.{Seconds}
 use Rattle.model.specs.declared.Job.{Job}
-use Rattle.model.specs.Model.{seconds, PermittedAfter, lastOf, roundUp, need, jobLoss, loss}
+use Rattle.model.specs.Model.{seconds, PermittedAfter, lastOf, need, jobLoss, loss}
 use Rattle.model.specs.Valid.{ValidJobs}
-use Rattle.step.specs.Step.{load, carried, pagesAfter, needAfter}
+use Rattle.step.specs.Step.{load, carried, pagesAfter, needAt, needAfter}
 use Rattle.walk.specs.Chains.{risingFrom, chainsBy}
 use Rattle.walk.specs.Walk.{lossFloor, needFloor, visit, Node, start, next, walkBy}
 use Rattle.walk.specs.Laws.{ListsAllowed, Keeps}
@@ -64,7 +64,7 @@ module _ {A : Type 0} (order : Seconds → Job → List Seconds) (f : ℕ → �
   pub walk-visits : (js : List Job) (n : Node) (acc : A) → walkBy order f js n acc ≡ visit (atPlan f js n) acc (chainsBy order (n .before) js)
   unfolding walkBy chainsBy visit atPlan needAfter pagesAfter lastOf loss
   walk-visits [] n acc =
-      ap₂ (λ (l : ℕ) (us : List Seconds). f (roundUp (3600 * n .pages) (n .before .0)) l us acc) (sym (add-zero (n .lost))) (sym (append-nil (n .periods)))
+      ap₂ (λ (l : ℕ) (us : List Seconds). f (needAt (n .pages) (n .before)) l us acc) (sym (add-zero (n .lost))) (sym (append-nil (n .periods)))
   walk-visits (j ∷ js) n acc =
       let ts = order (n .before) j in
       let below : Seconds → List (List Seconds) = λ t. chainsBy order t js in

@@ -4,7 +4,8 @@ use mathlib.Core.List.{List, [], _∷_, map, flatMap}
 use Prim.Native.Nat.{_*_, _/_}
 use Rattle.model.specs.declared.Seconds.{Seconds}
 use Rattle.model.specs.declared.Job.{Job}
-use Rattle.model.specs.Model.{seconds, roundUp}
+use Rattle.model.specs.Model.{seconds}
+use Rattle.model.specs.Rounding.{roundUp}
 use Rattle.model.specs.Climb.{climbTo, descendTo}
 
 -- The periods that a job may try after `before` go from this one, the first multiple in its interval ..

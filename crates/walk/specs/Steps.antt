@@ -6,7 +6,8 @@ use Prim.Native.Nat.{ℕ, _+_, _*_, _/_, _%_, _≤_, _<_}
 use lib.ListN.{getD, take}
 use Rattle.model.specs.declared.Seconds.{Seconds}
 use Rattle.model.specs.declared.Job.{Job}
-use Rattle.model.specs.Model.{seconds, pagesPerHour, roundUp}
+use Rattle.model.specs.Model.{seconds, pagesPerHour}
+use Rattle.model.specs.Rounding.{roundUp}
 use Rattle.walk.specs.declared.Tries.{Tries}
 use Rattle.step.specs.Step.{lossAt, LossFits, Bounded}
 use Rattle.walk.specs.Walk.{node, walk, lossFloor}

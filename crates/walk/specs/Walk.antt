@@ -4,8 +4,8 @@ use mathlib.Core.List.{List, [], _∷_, _++_}
 use Prim.Native.Nat.{ℕ, _+_, _*_, _/_, max}
 use Rattle.model.specs.declared.Seconds.{Seconds}
 use Rattle.model.specs.declared.Job.{Job}
-use Rattle.model.specs.Model.{seconds, roundUp, jobLoss}
-use Rattle.step.specs.Step.{load, carried}
+use Rattle.model.specs.Model.{seconds, jobLoss}
+use Rattle.step.specs.Step.{load, carried, needAt}
 use Rattle.walk.specs.Chains.{firstTry, lastTry, risingFrom, multiples, fallingFrom, multiplesDown}
 
 -- What these jobs lose at least when every period is at least `t`.
@@ -20,7 +20,7 @@ leastNeeds greatest (j ∷ js) = 3600 * load greatest j / j .hi .0 + leastNeeds 
 
 -- What a plan needs at least, whose jobs before these write `pages` in `before` seconds; `greatest` is the greatest of their metadata.
 unfoldable pub needFloor : ℕ → ℕ → Seconds → List Job → ℕ
-needFloor greatest pages before js = roundUp (3600 * pages) (before .0) + leastNeeds greatest js
+needFloor greatest pages before js = needAt pages before + leastNeeds greatest js
 
 -- Each entry in turn changes what was had before it.
 unfoldable pub visit : {A B : Type 0} → (B → A → A) → A → List B → A
@@ -53,7 +53,7 @@ next j n t = record {
 
 -- Job by job through the periods that `order` lists; each whole plan, its need and its loss go to `f`.
 unfoldable pub walkBy : {A : Type 0} → (Seconds → Job → List Seconds) → (ℕ → ℕ → List Seconds → A → A) → List Job → Node → A → A
-walkBy order f [] n acc = f (roundUp (3600 * n .pages) (n .before .0)) (n .lost) (n .periods) acc
+walkBy order f [] n acc = f (needAt (n .pages) (n .before)) (n .lost) (n .periods) acc
 walkBy order f (j ∷ js) n acc = visit (λ t. walkBy order f js (next j n t)) acc (order (n .before) j)
 
 abbrev pub walk : {A : Type 0} → (ℕ → ℕ → List Seconds → A → A) → List Job → Node → A → A

@@ -58,7 +58,8 @@ pub fn need_floor(rates: &[u32; 17], i: usize, t: Seconds, written: u64) -> Page
     requires { ⌜ needAt written t + getD (now rates) (8 + i) 0 ≤ mostNeed ⌝ }
     ensures { λ r. ⌜ r ≡ pagesPerHour (needAt written t + getD (now (rates .entry)) (8 + i) 0) ⌝ }
 {
-    PagesPerHour(step::need_of(written, t).0 + rates[8 + i])
+    let so_far = step::rounded_up(step::exact_need(written, t));
+    PagesPerHour(so_far.0 + rates[8 + i])
 }
 
 // The lowest loss that jobs i to n can come to when no period is shorter than t.

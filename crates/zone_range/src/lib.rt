@@ -5,7 +5,7 @@ use model::Seconds;
 ghost use mathlib.Core.Path.{_≡_};
 ghost use Prim.Native.Nat.{_*_, _/_, _^_, _≤_, min, max};
 ghost use lib.Dec.{ltb};
-ghost use Rattle.model.specs.Model.{roundUp};
+ghost use Rattle.model.specs.Rounding.{roundUp};
 
 // The smallest multiple of `a` that brings the greatest first period up to a job's shortest period.
 pub fn first_multiplier(lo: Seconds, greatest: Seconds, a: u32) -> u32

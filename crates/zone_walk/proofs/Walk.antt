@@ -11,7 +11,7 @@ use lib.ListN.{length, getD, take, set, length-set}
 use lib.Seq.{getD-set-same, getD-set-other, take-set-le, take-suc-set, drop-set-lt}
 use borrow.Author.Tests.{lt-ltb, le-ltb}
 use mathlib.Core.Logic.{⊎-elim}
-use Rattle.model.specs.Model.{roundUp}
+use Rattle.model.specs.Rounding.{roundUp}
 use Rattle.model.specs.Climb.{climbTo}
 use Rattle.model.proofs.Climb.{climb-step, climb-end}
 use Rattle.model.proofs.Rounding.{round-up-le, round-up-some}

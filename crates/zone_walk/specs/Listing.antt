@@ -8,7 +8,8 @@ use lib.ListN.{length, getD, take, drop}
 use lib.Dec.{ltb}
 use Rattle.model.specs.declared.Job.{Job}
 use Rattle.model.specs.declared.Profile.{Profile}
-use Rattle.model.specs.Model.{seconds, noJob, roundUp}
+use Rattle.model.specs.Model.{seconds, noJob}
+use Rattle.model.specs.Rounding.{roundUp}
 use Rattle.model.specs.Climb.{climbTo}
 use Rattle.zone_walk.specs.Zone.{Zone}
 

@@ -11,7 +11,7 @@ use lib.ListN.{length, length-append}
 use lib.Dec.{ltb}
 use borrow.Author.Tests.{ltb-false}
 use Rattle.model.specs.declared.Job.{Job}
-use Rattle.model.specs.Model.{roundUp}
+use Rattle.model.specs.Rounding.{roundUp}
 use Rattle.model.specs.Climb.{inTurn, climb, climbTo}
 use Rattle.model.specs.Valid.{ValidJobs}
 use Rattle.model.proofs.Rounding.{round-up-some}

@@ -13,7 +13,8 @@ use lib.Seq.{append-snoc}
 use lib.Dec.{ltb}
 use borrow.Author.Tests.{le-ltb, ltb-false}
 use Rattle.model.specs.declared.Job.{Job}
-use Rattle.model.specs.Model.{seconds, roundUp, Permitted}
+use Rattle.model.specs.Model.{seconds, Permitted}
+use Rattle.model.specs.Rounding.{roundUp}
 use Rattle.model.specs.Climb.{climbTo}
 use Rattle.model.specs.Valid.{ValidJobs}
 use Rattle.model.proofs.Climb.{RisingNumbers, climb-rising, climb-in, climb-has}

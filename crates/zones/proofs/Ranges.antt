@@ -6,7 +6,7 @@ use mathlib.Core.List.{List, List·Memᴰ, List·Memᴰ·not-nil}
 use Prim.Native.Nat.{ℕ, _*_, _/_, _≤_}
 use native.Mathlib.Omega.{arith}
 use native.Mathlib.Nat.{le-div-iff-mul-le}
-use Rattle.model.specs.Model.{roundUp}
+use Rattle.model.specs.Rounding.{roundUp}
 use Rattle.model.proofs.Rounding.{round-up-le}
 use Rattle.zone_walk.specs.Zone.{Zone}
 use Rattle.zone_walk.specs.Listing.{Span, leastFor, greatestFor, unlessEmpty}

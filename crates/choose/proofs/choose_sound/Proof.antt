@@ -6,7 +6,7 @@ use Rattle.model.specs.Model.{jobsOf}
 use Rattle.walk.specs.Arrays.{Held}
 use Rattle.walk.proofs.Filled.{all-held}
 use Rattle.walk.proofs.Cuts.{ready-start}
-use Rattle.choose.proofs.Answered.{plan-small, plan-right, none-right, least-right}
+use Rattle.choose.proofs.Answered.{best-found, plan-right, none-right, least-right}
 use native.Mathlib.Omega.{arith}
 use Rattle.choose.proofs.choose_sound.Statement.{statement}
 use Rattle.choose.proofs.choose_sound.Tie as tie
@@ -49,16 +49,23 @@ array-read-if1 c = search needs
 
 plan-requires : tie.Need-plan-requires
 plan-requires c κs =
-    let found = c .before .before in
+    let found = c .before .before .before in
     let made = found .before .before .before .before .before .before .before in
     let s = made .before .before .before .before .before .before in
-    plan-small (held made) (found .find-best .ensures) refl (omega (arith, s .good)) (c .before .if1 .taken)
+    let best = best-found (held made) (found .find-best .ensures) refl (c .before .before .if1 .taken) in
+    record {
+      valid = s .pre;
+      loads = made .before .before .before .pages-of .ensures;
+      size = found .find-best .ensures .sizes .best-size;
+      permitted = best .best .permitted;
+      its-loss = best .its-loss;
+    }
 
 returns : tie.Need-returns
 returns c =
-    let found = c .before .before .before in
+    let found = c .before .before .before .before in
     let made = found .before .before .before .before .before .before .before in
-    rw (c .plan .ensures) (plan-right (held made) (found .find-best .ensures) refl (c .before .before .if1 .taken))
+    rw (c .plan .ensures) (plan-right (held made) (found .find-best .ensures) refl (c .before .before .before .if1 .taken))
 
 least-need-requires : tie.Need-least-need-requires
 least-need-requires c κs =

@@ -1,6 +1,7 @@
 -- `choose_walk::least_need` meets its contract: before each turn of its loop, the walk from the present period down ends as the whole walk does.
 -- Assumes nothing.
 use Prim.Native.Nat.{ℕ, _<_, _+_, _-_}
+use Rattle.step.proofs.Fits.{need-rounded, may-round}
 use Rattle.walk.proofs.Cuts.{ready-more, ready-tries, ready-own, ready-need}
 use Rattle.choose_walk.proofs.Lessening.{Down, DownTurn, down-leaf, down-starts, down-to, down-room, down-next, down-cut, down-turn, down-skip, down-done}
 use borrow.Author.Needs.{needs}
@@ -12,7 +13,8 @@ use Rattle.choose_walk.proofs.least_need.Kinds as least-need-kinds
 use Rattle.choose_walk.proofs.+least_need.Lts-least_need as least-need-lts
 use Rattle.choose_walk.proofs.may_lessen.Reads as may-lessen-reads
 use Rattle.step.proofs.carry.Reads as carry-reads
-use Rattle.step.proofs.need_of.Reads as need-of-reads
+use Rattle.step.proofs.exact_need.Reads as exact-need-reads
+use Rattle.step.proofs.rounded_up.Reads as rounded-up-reads
 use Rattle.walk.proofs.to_try.Reads as to-try-reads
 use Rattle.choose_walk.proofs.smaller.Reads as smaller-reads
 use Rattle.choose_walk.proofs.+least_need.{statement}
@@ -32,8 +34,10 @@ asked t =
 -- what each call asks and tells
 abbrev claims : ℕ → least-need-lts.Claims
 claims t = (
-  need-of-reads.Asked,
-  need-of-reads.Learnt,
+  exact-need-reads.Asked,
+  exact-need-reads.Learnt,
+  rounded-up-reads.Asked,
+  rounded-up-reads.Learnt,
   smaller-reads.Asked,
   smaller-reads.Learnt,
   to-try-reads.Asked,
@@ -52,14 +56,20 @@ Inv-loop spans pages rates i n step written tries least₀ t₀ least t = Down s
 abbrev μ-loop : least-need-lts.MeasureT-loop
 μ-loop spans pages rates i n step written tries least₀ t₀ least t = t .0
 
-need-of-requires : (t : ℕ) → least-need-lts.Need-need-of-requires (claims t) (given t) least-need.Post Inv-loop μ-loop
-need-of-requires t c κs = ready-need (c .before .pre .1 .ready)
+exact-need-requires : (t : ℕ) → least-need-lts.Need-exact-need-requires (claims t) (given t) least-need.Post Inv-loop μ-loop
+exact-need-requires t c κs = ready-need (c .before .pre .1 .ready)
+
+rounded-up-requires : (t : ℕ) → least-need-lts.Need-rounded-up-requires (claims t) (given t) least-need.Post Inv-loop μ-loop
+rounded-up-requires t c κs = may-round (ready-need (c .before .before .pre .1 .ready)) (c .exact-need .ensures)
 
 smaller-requires : (t : ℕ) → least-need-lts.Need-smaller-requires (claims t) (given t) least-need.Post Inv-loop μ-loop
 smaller-requires t c κs = search needs
 
 returns : (t : ℕ) → least-need-lts.Need-returns (claims t) (given t) least-need.Post Inv-loop μ-loop
-returns t c = down-leaf (c .before .before .before .pre .1) (c .before .before .if1 .taken) _ _ _ (c .before .need-of .ensures) (c .smaller .ensures)
+returns t c =
+    let up = c .before in
+    let exact = up .before in
+    down-leaf (exact .before .before .pre .1) (exact .before .if1 .taken) _ _ _ (need-rounded _ _ (exact .exact-need .ensures) (up .rounded-up .ensures)) (c .smaller .ensures)
 
 to-try-requires : (t : ℕ) → least-need-lts.Need-to-try-requires (claims t) (given t) least-need.Post Inv-loop μ-loop
 to-try-requires t c κs =
@@ -98,8 +108,8 @@ carry-requires t c κs =
     let d = facts t (c .before) in
     (ready-need (d .ready .ready), down-to d, ready-own (d .ready .ready) (d .less))
 
-sub-t20 : (t : ℕ) → least-need-lts.Need-sub-t20 (claims t) (given t) least-need.Post Inv-loop μ-loop
-sub-t20 t c = down-room (facts t (c .before .before .before .before))
+sub-t21 : (t : ℕ) → least-need-lts.Need-sub-t21 (claims t) (given t) least-need.Post Inv-loop μ-loop
+sub-t21 t c = down-room (facts t (c .before .before .before .before))
 
 add-may-lessen : (t : ℕ) → least-need-lts.Need-add-may-lessen (claims t) (given t) least-need.Post Inv-loop μ-loop
 add-may-lessen t c = search needs
@@ -149,7 +159,8 @@ pub +least-need-spec : {M : Type 1} → statement M
     least-need.Post
     Inv-loop
     μ-loop
-    (need-of-requires t)
+    (exact-need-requires t)
+    (rounded-up-requires t)
     (smaller-requires t)
     (returns t)
     (to-try-requires t)
@@ -157,7 +168,7 @@ pub +least-need-spec : {M : Type 1} → statement M
     (mul-carry t)
     (element-copy-out-carry t)
     (carry-requires t)
-    (sub-t20 t)
+    (sub-t21 t)
     (add-may-lessen t)
     (may-lessen-requires t)
     (add-least-need t)

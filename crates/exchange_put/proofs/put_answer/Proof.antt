@@ -20,7 +20,7 @@ abbrev left : List Seconds → ℕ → List ℕ
 left ts k = map (λ (t : Seconds). t .0) (entries (seconds 0) ts k (8 - k))
 
 abbrev Inv-loop : tie.InvT-loop
-Inv-loop loss answer₀ periods k₀ answer k = Completes (sets answer₀ 2 (left periods 0)) answer (2 + k) (left periods k)
+Inv-loop loss answer₀ periods k₀ answer k = Completes (sets answer₀ 3 (left periods 0)) answer (3 + k) (left periods k)
 
 abbrev μ-loop : tie.MeasureT-loop
 μ-loop loss answer₀ periods k₀ answer k = 8 - k
@@ -31,8 +31,14 @@ cast-answer c = search needs
 element-write-answer : tie.Need-element-write-answer Inv-loop μ-loop
 element-write-answer c = search needs
 
+cast-answer-2 : tie.Need-cast-answer-2 Inv-loop μ-loop
+cast-answer-2 c = search needs
+
 element-write-answer-2 : tie.Need-element-write-answer-2 Inv-loop μ-loop
 element-write-answer-2 c = search needs
+
+element-write-answer-3 : tie.Need-element-write-answer-3 Inv-loop μ-loop
+element-write-answer-3 c = search needs
 
 loop-holds : tie.Need-loop-holds Inv-loop μ-loop
 loop-holds c = record { is = refl }
@@ -52,8 +58,8 @@ add-answer c = search needs
 mul-answer : tie.Need-mul-answer Inv-loop μ-loop
 mul-answer c = search needs
 
-element-write-answer-3 : tie.Need-element-write-answer-3 Inv-loop μ-loop
-element-write-answer-3 c = search needs
+element-write-answer-4 : tie.Need-element-write-answer-4 Inv-loop μ-loop
+element-write-answer-4 c = search needs
 
 add-k : tie.Need-add-k Inv-loop μ-loop
 add-k c = search needs
@@ -64,16 +70,16 @@ loop-less c = search needs
 loop-again : tie.Need-loop-again Inv-loop μ-loop
 loop-again c =
     let l = c .before .before .before .loop in
-    let ts = c .before .before .before .before .before .args .t3 in
+    let ts = c .before .before .before .before .before .before .args .t3 in
     let parts = ap (map (λ (x : Seconds). x .0)) (entries-step (seconds 0) ts (l .k) 8 (omega arith)) in
-    let stored = ap (set (l .answer) (2 + l .k)) (c .wide .ensures) in
+    let stored = ap (set (l .answer) (3 + l .k)) (c .wide .ensures) in
     run-stored (getD ts (l .k) (seconds 0) .0 ∷ []) (left ts (l .k + 1)) parts stored (omega arith) (l .inv)
 
 returns : tie.Need-returns Inv-loop μ-loop
 unfolding answerOf
 returns c =
     let l = c .before .loop in
-    all-stored (ap (map (λ (x : Seconds). x .0)) (entries-end (seconds 0) (c .before .before .before .args .t3) (l .k) 8 (omega arith))) (l .inv)
+    all-stored (ap (map (λ (x : Seconds). x .0)) (entries-end (seconds 0) (c .before .before .before .before .args .t3) (l .k) 8 (omega arith))) (l .inv)
 
 pub put-answer-spec : {M : Type 1} → statement M
 put-answer-spec =
@@ -83,14 +89,16 @@ put-answer-spec =
     μ-loop
     cast-answer
     element-write-answer
+    cast-answer-2
     element-write-answer-2
+    element-write-answer-3
     loop-holds
     mul-wide
     array-copy-out-wide
     wide-requires
     add-answer
     mul-answer
-    element-write-answer-3
+    element-write-answer-4
     add-k
     loop-less
     loop-again

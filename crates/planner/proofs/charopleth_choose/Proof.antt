@@ -39,7 +39,7 @@ put-answer-requires c κs = search needs
 
 returns-2 : tie.Need-returns-2
 returns-2 c =
-    let t = c .before .before .before in
+    let t = c .before .before .before .before in
     let s = t .before .before in
     sound-left (s .choose .result) (of-these s) (sym (t .enum-told .given .1)) (c .put-answer .ensures)
 

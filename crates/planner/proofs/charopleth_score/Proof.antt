@@ -46,12 +46,18 @@ cast-answer c = search needs
 element-write-answer : tie.Need-element-write-answer
 element-write-answer c = search needs
 
+cast-answer-2 : tie.Need-cast-answer-2
+cast-answer-2 c = search needs
+
 element-write-answer-2 : tie.Need-element-write-answer-2
 element-write-answer-2 c = search needs
 
+element-write-answer-3 : tie.Need-element-write-answer-3
+element-write-answer-3 c = search needs
+
 returns-2 : tie.Need-returns-2
 returns-2 c =
-    let t = c .before in
+    let t = c .before .before in
     let s = t .before .before in
     sound-left (s .score .result) (of-these s) (sym (t .enum-told .given .1)) refl
 
@@ -67,5 +73,7 @@ charopleth-score-spec =
     returns
     cast-answer
     element-write-answer
+    cast-answer-2
     element-write-answer-2
+    element-write-answer-3
     returns-2)

@@ -121,13 +121,13 @@ loop-again c =
     let i = turnOf e in
     rw (c .before .carry .ensures, own i, c .loss-with .ensures) (next-job (i .before .loop .inv) (i .loop-test .taken) (i .before .before .before .pre) (passed e))
 
-need-of-requires : tie.Need-need-of-requires Inv-loop μ-loop
-need-of-requires c κs = along-fits (c .before .loop .inv .along)
+exact-need-requires : tie.Need-exact-need-requires Inv-loop μ-loop
+exact-need-requires c κs = along-fits (c .before .loop .inv .along)
 
 returns-2 : tie.Need-returns-2 Inv-loop μ-loop
 returns-2 c =
     let l = c .before .before in
-    rw (c .need-of .ensures) (all-reckoned (l .loop .inv) (l .before .before .pre) (c .before .loop-test .left))
+    rw (c .exact-need .ensures) (all-reckoned (l .loop .inv) (l .before .before .pre) (c .before .loop-test .left))
 
 pub reckon-spec : {M : Type 1} → statement M
 reckon-spec =
@@ -155,5 +155,5 @@ reckon-spec =
     add-k
     loop-less
     loop-again
-    need-of-requires
+    exact-need-requires
     returns-2)

@@ -1,6 +1,8 @@
 -- `table_check::first_bad_row` meets its contract: before each turn the rows, and a row's places, that were passed are right.
 -- Assumes nothing.
-use Prim.Native.Nat.{_-_, _<_, zero-le}
+use Prim.Native.Nat.{_+_, _-_, _<_, zero-le}
+use mir.Syntax.{w64}
+use mir.Val.{Fits}
 use mathlib.Core.Path.{_≡_, _∙_, sym, ap}
 use mathlib.Core.Bool.{true}
 use native.Mathlib.Omega.{arith}
@@ -16,6 +18,7 @@ use Rattle.model.proofs.Validity.{job-valid-at}
 use Rattle.model.proofs.Allowing.{allowed}
 use Rattle.step.specs.Step.{loadAt}
 use Rattle.step.proofs.Bounds.{load-bound}
+use Rattle.step.proofs.Fits.{need-rounded, may-round}
 use Rattle.step.proofs.Along.{along-fits, along-loss-fits}
 use Rattle.table_check.proofs.Turns.{RowsLeft, PlacesLeft, Scanned, first-rows, first-places, place-off, next-place, next-zero, scanned-row}
 use Rattle.table_check.proofs.Turns.{no-more, place-fails, zero-fails, start-fails, order-fails, next-row}
@@ -50,15 +53,25 @@ passed : (c : tie.Else4 Inv-loop μ-loop Inv-rows μ-rows) →
     allows (jobHere i) (i .before .loop .before) (periodHere i) ≡ true
 passed c = sym (c .before .allowed .ensures) ∙ not-false _ (c .if4 .left)
 
+-- the number of a row fits its type
+numbered : (r : tie.Else1 Inv-loop μ-loop Inv-rows μ-rows) → Fits w64 (r .before .rows .k + 1)
+numbered r = search needs
+
+-- the turn of the row whose need is known
+abbrev rowOf : tie.After-rounded-up Inv-loop μ-loop Inv-rows μ-rows → tie.Else1 Inv-loop μ-loop Inv-rows μ-rows
+rowOf s = s .before .before .before .before .before .before .before
+
 -- past the loop over a row's periods its need and its loss are known
-scanned : (c : tie.After-need-of Inv-loop μ-loop Inv-rows μ-rows) →
-    let row = c .before .before .before .before .before in
+scanned : (c : tie.After-rounded-up Inv-loop μ-loop Inv-rows μ-rows) →
+    let l = c .before .before .before in
+    let row = l .before .before .before in
     let turn = row .before .before in
     let start = turn .before .before .before .before .before in
-    Scanned (start .args .t1) (start .args .table .now) (turn .rows .k) (row .row-at .result) (c .need-of .result) (c .before .before .loop .lost)
+    Scanned (start .args .t1) (start .args .table .now) (turn .rows .k) (row .row-at .result) (c .rounded-up .result) (l .loop .lost)
 scanned c =
-    let l = c .before .before in
-    rw (c .need-of .ensures) (scanned-row (valid l) (l .before .before .before .row-at .ensures) (l .loop .inv) (c .before .loop-test .left))
+    let exact = c .before in
+    let l = exact .before .before in
+    rw (need-rounded _ _ (exact .exact-need .ensures) (c .rounded-up .ensures)) (scanned-row (valid l) (l .before .before .before .row-at .ensures) (l .loop .inv) (exact .before .loop-test .left))
 
 cast-n : tie.Need-cast-n Inv-loop μ-loop Inv-rows μ-rows
 cast-n c = search needs
@@ -166,10 +179,15 @@ loop-again-2 c =
     let l = e .before .before .before in
     rw (c .before .carry .ensures, own l (e .if2 .left), c .loss-with .ensures) (next-place (valid l) (l .loop .inv) (e .if2 .left) (passed (c .before .before)))
 
-need-of-requires : tie.Need-need-of-requires Inv-loop μ-loop Inv-rows μ-rows
-need-of-requires c κs =
+exact-need-requires : tie.Need-exact-need-requires Inv-loop μ-loop Inv-rows μ-rows
+exact-need-requires c κs =
     let l = c .before in
     along-fits (l .loop .inv .along)
+
+rounded-up-requires : tie.Need-rounded-up-requires Inv-loop μ-loop Inv-rows μ-rows
+rounded-up-requires c κs =
+    let l = c .before .before in
+    may-round (along-fits (l .loop .inv .along)) (c .exact-need .ensures)
 
 add-bad-3 : tie.Need-add-bad-3 Inv-loop μ-loop Inv-rows μ-rows
 add-bad-3 c = search needs
@@ -178,10 +196,10 @@ may-follow-requires : tie.Need-may-follow-requires Inv-loop μ-loop Inv-rows μ-
 may-follow-requires c κs = search needs
 
 add-bad-4 : tie.Need-add-bad-4 Inv-loop μ-loop Inv-rows μ-rows
-add-bad-4 c = search needs
+add-bad-4 c = numbered (rowOf (c .before .before .before .before .before))
 
 add-k : tie.Need-add-k Inv-loop μ-loop Inv-rows μ-rows
-add-k c = search needs
+add-k c = numbered (rowOf (c .before .before .before .before .before))
 
 rows-less : tie.Need-rows-less Inv-loop μ-loop Inv-rows μ-rows
 rows-less c = search needs
@@ -189,7 +207,7 @@ rows-less c = search needs
 rows-again : tie.Need-rows-again Inv-loop μ-loop Inv-rows μ-rows
 rows-again c =
     let s = c .before .before .before .before .before in
-    let r = s .before .before .before .before .before .before in
+    let r = rowOf s in
     next-row (r .before .rows .inv) (r .if1 .left) (scanned s) (c .before .before .if5 .left) (c .before .may-follow .ensures) (c .if6 .left)
 
 returns : tie.Need-returns Inv-loop μ-loop Inv-rows μ-rows
@@ -213,13 +231,13 @@ returns-3 c =
 returns-4 : tie.Need-returns-4 Inv-loop μ-loop Inv-rows μ-rows
 returns-4 c =
     let s = c .before .before .before in
-    let r = s .before .before .before .before .before .before in
+    let r = rowOf s in
     start-fails (r .before .rows .inv) (r .if1 .left) (scanned s) (c .if5 .taken)
 
 returns-5 : tie.Need-returns-5 Inv-loop μ-loop Inv-rows μ-rows
 returns-5 c =
     let s = c .before .before .before .before .before in
-    let r = s .before .before .before .before .before .before in
+    let r = rowOf s in
     order-fails (r .before .rows .inv) (r .if1 .left) (scanned s) (c .before .may-follow .ensures) (c .if6 .taken)
 
 pub first-bad-row-spec : {M : Type 1} → statement M
@@ -256,7 +274,8 @@ first-bad-row-spec =
     add-i-2
     loop-less-2
     loop-again-2
-    need-of-requires
+    exact-need-requires
+    rounded-up-requires
     add-bad-3
     may-follow-requires
     add-bad-4
