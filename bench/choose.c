@@ -79,7 +79,7 @@ static uint32_t greatest_need(const uint32_t jobs[])
 {
     uint64_t answer[CHAROPLETH_CHOICE_LENGTH];
     charopleth_choose(8, jobs, 0xffffffff, answer);
-    return (uint32_t)answer[CHAROPLETH_NEED];
+    return (uint32_t)CHAROPLETH_NEED(answer);
 }
 
 int main(void)

@@ -26,16 +26,16 @@ typedef uint64_t builder(uint32_t, const uint32_t[], uint8_t *, size_t);
 static uint64_t by_choices(uint32_t n, const uint32_t jobs[], uint8_t *room, size_t length)
 {
     uint64_t answer[CHAROPLETH_CHOICE_LENGTH], rows = 0, limit = (uint64_t)1 << 32, result = 0;
-    for (; limit > 0 && (result = charopleth_choose(n, jobs, (uint32_t)(limit - 1), answer)) == 0; limit = answer[CHAROPLETH_NEED])
+    for (; limit > 0 && (result = charopleth_choose(n, jobs, (uint32_t)(limit - 1), answer)) == 0; limit = CHAROPLETH_NEED(answer))
         rows++;
     if (rows == 0)
         return CHAROPLETH_REFUSAL(result) == 10 ? refusal(9, 0) : result;
     if (length / 16 < rows)
         return refusal(11, rows);
     limit = (uint64_t)1 << 32;
-    for (uint64_t row = rows; row-- > 0; limit = answer[CHAROPLETH_NEED]) {
+    for (uint64_t row = rows; row-- > 0; limit = CHAROPLETH_NEED(answer)) {
         charopleth_choose(n, jobs, (uint32_t)(limit - 1), answer);
-        reference_row(answer[CHAROPLETH_NEED], answer + CHAROPLETH_PERIODS, room + 16 * row);
+        reference_row(CHAROPLETH_NEED(answer), answer + CHAROPLETH_PERIODS, room + 16 * row);
     }
     return rows;
 }

@@ -7,14 +7,14 @@
 #include "reference.h"
 #include "word.h"
 
-/* The numbers of the walk, made once, and the best plan so far. */
+/* The numbers of the walk, made once, and the best plan so far, with its pages of Tn seconds and its need rounded up. */
 struct walk {
     int without_cut;
     uint32_t n, budget;
     uint32_t lo[8], hi[8], loads[8], loss_pages[8], stiffness[8], fastest[8], later[9];
     uint32_t periods[8];
     uint32_t best[8];
-    uint64_t need, loss;
+    uint64_t pages, need, loss;
 };
 
 static uint64_t job_loss(const struct walk *w, uint32_t k, uint32_t t)
@@ -54,6 +54,7 @@ static int repeats(const struct walk *w, uint32_t i, uint32_t a, uint32_t first)
     return !w->without_cut && w->loads[i] == 0 && w->loss_pages[i] == 0 && passed_over(a, first);
 }
 
+/* Rounded up. */
 static uint32_t need_of(uint64_t pages, uint32_t t) { return (uint32_t)((3600 * pages + (t - 1)) / t); }
 
 /* A plan for all jobs: it is kept where it fits and is better than the best so far. */
@@ -62,6 +63,7 @@ static void offer(struct walk *w, uint32_t last, uint64_t pages, uint64_t lost)
     uint32_t need = need_of(pages, last);
     if (need <= w->budget && (lost < w->loss || (lost == w->loss && need < w->need))) {
         memcpy(w->best, w->periods, sizeof w->best);
+        w->pages = pages;
         w->need = need;
         w->loss = lost;
     }
@@ -145,7 +147,8 @@ static uint64_t choose(uint32_t n, const uint32_t jobs[], uint32_t budget, uint6
         uint32_t least = least_need(&w, 0, 1, 0, UINT32_MAX);
         return least == UINT32_MAX ? refusal(9, 0) : refusal(10, least);
     }
-    answer[CHAROPLETH_NEED] = w.need;
+    answer[CHAROPLETH_WHOLE] = 3600 * w.pages / w.best[n - 1];
+    answer[CHAROPLETH_REMAINDER] = 3600 * w.pages % w.best[n - 1];
     answer[CHAROPLETH_LOSS] = w.loss;
     for (uint32_t k = 0; k < 8; k++)
         answer[CHAROPLETH_PERIODS + k] = k < n ? w.best[k] : 0;

@@ -13,10 +13,11 @@
  * Periods, one for each job, are permitted when each lies in its job's interval and is a whole multiple of the one before.
  * All jobs start together at second 0, and each runs at every multiple of its period. At a second at which some run, each of
  * these writes its data, and the drive commits metadata once, as much as the largest of theirs. With T the last job's period,
- * the need is 3,600 times the pages that are so written in the seconds 1 to T, over T, rounded up once: pages per hour.
- * Periods fit a budget when their need is at most that. A job's rate is 3,600 times its own data and metadata over its period,
- * rounded down, and its loss is its stiffness times the square of what the rate falls by against the shortest period; the loss
- * of a plan is the sum over its jobs.
+ * the need is 3,600 times the pages that are so written in the seconds 1 to T, over T: whole pages per hour, and a remainder
+ * over T that is below T. Scoring and choosing tell both. All else goes by the need rounded up to whole pages: periods fit a
+ * budget when that is at most the budget. A job's rate is 3,600 times its own data and metadata over its period, rounded down,
+ * and its loss is its stiffness times the square of what the rate falls by against the shortest period; the loss of a plan is
+ * the sum over its jobs.
  *
  * Each function returns a number of 64 bits: the high 16 bits are the refusal's number, 0 for none, and the low 48 its
  * detail, 0 where none is said, or where nothing is refused the count that is said below. A detail or count of 2^48 or more,
@@ -50,8 +51,12 @@ enum {
 };
 #define CHAROPLETH_JOB(jobs, i) ((jobs) + CHAROPLETH_JOB_NUMBERS * (i))
 
-/* The numbers of an answer, in their order. A score ends before the periods; a choice has one for each of eight jobs. */
-enum { CHAROPLETH_NEED, CHAROPLETH_LOSS, CHAROPLETH_PERIODS };
+/* The numbers of an answer, in their order; the first two are the need. A score ends before the periods; a choice has one for
+ * each of eight jobs. */
+enum { CHAROPLETH_WHOLE, CHAROPLETH_REMAINDER, CHAROPLETH_LOSS, CHAROPLETH_PERIODS };
+
+/* An answer's need rounded up to whole pages: the least budget that its periods fit, and what a row with them starts at. */
+#define CHAROPLETH_NEED(answer) ((answer)[CHAROPLETH_WHOLE] + ((answer)[CHAROPLETH_REMAINDER] != 0))
 
 /* The lengths of the arrays that are called jobs and values, and of the answers of scoring and choosing. */
 #define CHAROPLETH_MOST_JOBS 8
@@ -71,16 +76,18 @@ uint64_t charopleth_read(const uint8_t *profile, size_t length, uint32_t values[
  * length is too small, with the number needed. */
 uint64_t charopleth_write(uint32_t n, const uint32_t jobs[CHAROPLETH_JOBS_LENGTH], uint8_t *room, size_t length);
 
-/* What given periods need and lose. periods: eight numbers of seconds, of which those beyond n are ignored. answer: the need
- * in pages per hour, and the loss. Returns 0 where they were scored. Refuses 13 where they are not permitted, with the number,
- * from 1, of the first job whose interval or whose period before rules its own period out. */
+/* What given periods need and lose. periods: eight numbers of seconds, of which those beyond n are ignored. answer: whole
+ * pages per hour of the need, its remainder over the last job's period, and the loss. Returns 0 where they were scored.
+ * Refuses 13 where they are not permitted, with the number, from 1, of the first job whose interval or whose period before
+ * rules its own period out. */
 uint64_t charopleth_score(uint32_t n, const uint32_t jobs[CHAROPLETH_JOBS_LENGTH],
                           const uint32_t periods[CHAROPLETH_MOST_JOBS], uint64_t answer[CHAROPLETH_SCORE_LENGTH]);
 
 /* The best periods for a budget of flash pages per hour: permitted, fitting, and of the smallest loss that such periods have;
- * of those with one loss, the ones of smallest need, and then the list that is smaller where two first differ. answer: the
- * need in pages per hour, the loss, and eight periods in seconds, 0 beyond n. Returns 0 where periods were chosen. Refuses 9
- * where no periods are permitted, and 10 where none fit the budget, with the least budget that would do. */
+ * of those with one loss, the ones of smallest need, rounded up, and then the list that is smaller where two first differ.
+ * answer: whole pages per hour of the need, its remainder over the last job's period, the loss, and eight periods in seconds,
+ * 0 beyond n. Returns 0 where periods were chosen. Refuses 9 where no periods are permitted, and 10 where none fit the budget,
+ * with the least budget that would do. */
 uint64_t charopleth_choose(uint32_t n, const uint32_t jobs[CHAROPLETH_JOBS_LENGTH], uint32_t budget,
                            uint64_t answer[CHAROPLETH_CHOICE_LENGTH]);
 
@@ -92,17 +99,17 @@ uint64_t charopleth_choose(uint32_t n, const uint32_t jobs[CHAROPLETH_JOBS_LENGT
 uint64_t charopleth_zones(uint32_t n, const uint32_t jobs[CHAROPLETH_JOBS_LENGTH], uint8_t *room, size_t length);
 
 /* The budget table of a profile, a row of sixteen bytes for each different best answer as the budget goes through all 32-bit
- * numbers, at the front of `room`: start 32 bits, which is the answer's need and the least budget that gets it, then eight
- * periods of 12 bits, 0 beyond n. By rising start. Returns the number of rows; bytes after them are untouched. Refuses 9 where
- * no periods are permitted, and 11 where length / 16 rows are too few, with the number needed. */
+ * numbers, at the front of `room`: start 32 bits, which is the answer's need rounded up and the least budget that gets it,
+ * then eight periods of 12 bits, 0 beyond n. By rising start. Returns the number of rows; bytes after them are untouched.
+ * Refuses 9 where no periods are permitted, and 11 where length / 16 rows are too few, with the number needed. */
 uint64_t charopleth_table(uint32_t n, const uint32_t jobs[CHAROPLETH_JOBS_LENGTH], uint8_t *room, size_t length);
 
 /* The row of a lent table that answers a budget: the last whose start is at most that. The table need not be complete, but it
  * is checked in full before it is believed. A row is good when its periods are permitted and nothing stands behind them, when
- * it starts at what they need, and when it starts above the row in front of it and loses less. Returns the row's number,
- * counted from 1, so that its sixteen bytes begin at table + 16 * (number - 1). Refuses 12 with the number of the first row
- * that is not good, or with 0 where length is not a positive multiple of 16, then 10 where the first start is above the
- * budget, with that start. */
+ * it starts at their need, rounded up, and when it starts above the row in front of it and loses less. Returns the row's
+ * number, counted from 1, so that its sixteen bytes begin at table + 16 * (number - 1). Refuses 12 with the number of the
+ * first row that is not good, or with 0 where length is not a positive multiple of 16, then 10 where the first start is above
+ * the budget, with that start. */
 uint64_t charopleth_lookup(uint32_t n, const uint32_t jobs[CHAROPLETH_JOBS_LENGTH], const uint8_t *table, size_t length,
                            uint32_t budget);
 

@@ -51,7 +51,7 @@ static int as_chosen(uint32_t budget)
         return 0;
     uint64_t chosen = reference_choose(l.n, l.jobs, budget, answer, LONG);
     uint8_t row[16];
-    reference_row(answer[CHAROPLETH_NEED], answer + CHAROPLETH_PERIODS, row);
+    reference_row(CHAROPLETH_NEED(answer), answer + CHAROPLETH_PERIODS, row);
     int equal = chosen ? chosen == result : !CHAROPLETH_REFUSAL(result) && memcmp(l.table + 16 * (result - 1), row, 16) == 0;
     if (!equal)
         printf("lookup: budget %" PRIu32 ": row %016" PRIx64 " is not the choice\n", budget, result);
@@ -68,10 +68,10 @@ static void insert(void)
         return;
     for (int i = 0; i < 8; i++)
         periods[i] = list[i];
-    while (row < l.length / 16 && start_of(row) < scores[CHAROPLETH_NEED])
+    while (row < l.length / 16 && start_of(row) < CHAROPLETH_NEED(scores))
         row++;
     memmove(l.table + 16 * row + 16, l.table + 16 * row, l.length - 16 * row);
-    reference_row(scores[CHAROPLETH_NEED], periods, l.table + 16 * row);
+    reference_row(CHAROPLETH_NEED(scores), periods, l.table + 16 * row);
     l.length += 16;
 }
 

@@ -90,6 +90,12 @@ uint64_t reference_write(uint32_t n, const uint32_t jobs[], uint8_t *room, uint6
     return bytes;
 }
 
+/* Whole pages per hour, and a remainder over the last period. */
+struct need {
+    uint64_t whole, remainder;
+};
+
+/* A plan for a row, its need rounded up. */
 struct plan {
     uint64_t loss, need, periods[8];
 };
@@ -104,7 +110,8 @@ struct search {
     uint32_t periods[8];
     int permitted, fitting, gave_up;
     uint64_t least_need;
-    uint64_t need, loss;
+    struct need need;
+    uint64_t loss;
     uint32_t best[8];
     uint32_t (*lists)[8];
     struct plan *plans;
@@ -136,12 +143,16 @@ static uint64_t pages_in(const struct search *s, uint32_t seconds)
     return pages;
 }
 
-/* 3,600 times the pages of Tn seconds, over Tn, rounded up once. */
-static uint64_t need_of(const struct search *s)
+/* 3,600 times the pages of Tn seconds, over Tn. */
+static struct need need_of(const struct search *s)
 {
     uint32_t last = s->periods[s->n - 1];
-    return (3600 * pages_in(s, last) + last - 1) / last;
+    uint64_t hourly = 3600 * pages_in(s, last);
+    return (struct need){.whole = hourly / last, .remainder = hourly % last};
 }
+
+/* A need as it meets a budget, settles a tie and starts a row. */
+static uint64_t rounded_up(struct need need) { return need.remainder == 0 ? need.whole : need.whole + 1; }
 
 static uint64_t loss_of(const struct search *s)
 {
@@ -155,16 +166,25 @@ static uint64_t loss_of(const struct search *s)
     return sum;
 }
 
+/* What scoring and choosing both tell. */
+static void put_score(uint64_t answer[], struct need need, uint64_t loss)
+{
+    answer[CHAROPLETH_WHOLE] = need.whole;
+    answer[CHAROPLETH_REMAINDER] = need.remainder;
+    answer[CHAROPLETH_LOSS] = loss;
+}
+
 static void weigh(struct search *s)
 {
-    uint64_t need = need_of(s), loss = loss_of(s);
-    if (!s->permitted || need < s->least_need)
-        s->least_need = need;
+    struct need need = need_of(s);
+    uint64_t rounded = rounded_up(need), loss = loss_of(s);
+    if (!s->permitted || rounded < s->least_need)
+        s->least_need = rounded;
     s->permitted = 1;
-    if (need > s->budget)
+    if (rounded > s->budget)
         return;
     /* On equal loss and need the list that was found first stands: it is the smaller one. */
-    if (s->fitting && (loss > s->loss || (loss == s->loss && need >= s->need)))
+    if (s->fitting && (loss > s->loss || (loss == s->loss && rounded >= rounded_up(s->need))))
         return;
     s->fitting = 1;
     s->need = need;
@@ -211,8 +231,7 @@ uint64_t reference_choose(uint32_t n, const uint32_t jobs[], uint32_t budget, ui
         return refusal(9, 0);
     if (!s.fitting)
         return refusal(10, s.least_need);
-    answer[CHAROPLETH_NEED] = s.need;
-    answer[CHAROPLETH_LOSS] = s.loss;
+    put_score(answer, s.need, s.loss);
     for (uint32_t i = 0; i < 8; i++)
         answer[CHAROPLETH_PERIODS + i] = i < n ? s.best[i] : 0;
     return 0;
@@ -292,7 +311,7 @@ static void keep_plan(struct search *s)
     struct plan *plan = s->plans + s->listed++;
     memset(plan, 0, sizeof *plan);
     plan->loss = loss_of(s);
-    plan->need = need_of(s);
+    plan->need = rounded_up(need_of(s));
     for (uint32_t i = 0; i < s->n; i++)
         plan->periods[i] = s->periods[i];
 }
@@ -311,10 +330,10 @@ static int better(const void *a, const void *b)
     return 0;
 }
 
-void reference_row(uint64_t need, const uint64_t periods[8], uint8_t row[16])
+void reference_row(uint64_t start, const uint64_t periods[8], uint8_t row[16])
 {
     memset(row, 0, 16);
-    int at = put_field(row, 0, 32, need);
+    int at = put_field(row, 0, 32, start);
     for (int k = 0; k < 8; k++)
         at = put_field(row, at, 12, periods[k]);
 }
@@ -368,8 +387,7 @@ uint64_t reference_score(uint32_t n, const uint32_t jobs[], const uint32_t perio
     uint32_t bad = first_bad_period(&s);
     if (bad != 0)
         return refusal(13, bad);
-    answer[CHAROPLETH_NEED] = need_of(&s);
-    answer[CHAROPLETH_LOSS] = loss_of(&s);
+    put_score(answer, need_of(&s), loss_of(&s));
     return 0;
 }
 
@@ -395,7 +413,7 @@ uint64_t reference_lookup(uint32_t n, const uint32_t jobs[], const uint8_t *tabl
     for (uint64_t k = 0; k < length / 16; k++) {
         const uint8_t *row = table + 16 * k;
         uint64_t start = reference_start(row);
-        if (!take_periods(&s, row) || need_of(&s) != start)
+        if (!take_periods(&s, row) || rounded_up(need_of(&s)) != start)
             return refusal(12, k + 1);
         uint64_t loss = loss_of(&s);
         if (k > 0 && (start <= start_before || loss >= loss_before))

@@ -22,7 +22,7 @@ uint64_t reference_zones(uint32_t n, const uint32_t jobs[], uint8_t *room, uint6
 uint64_t reference_table(uint32_t n, const uint32_t jobs[], uint8_t *room, uint64_t length, uint64_t most);
 
 /* The sixteen bytes of a table row. */
-void reference_row(uint64_t need, const uint64_t periods[8], uint8_t row[16]);
+void reference_row(uint64_t start, const uint64_t periods[8], uint8_t row[16]);
 
 /* Its start. */
 uint32_t reference_start(const uint8_t row[16]);
