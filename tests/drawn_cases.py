@@ -7,12 +7,14 @@ somewhere. The names of the latter are printed.
 """
 import collections
 import itertools
+import math
 import pathlib
 import random
 import re
 import sys
 
-from rules import chosen, judged_values, looked_up, packed, pages_in, permitted, put, rows_of, scored, table_rows, unpacked, zone_rows
+from rules import (chosen, judged_values, looked_up, need_of, packed, pages_in, permitted, put, rows_of, scored, table_rows,
+                   unpacked, zone_rows)
 
 MOST = 2 ** 32 - 1
 LIST = 300
@@ -96,7 +98,7 @@ def budget_for(n, jobs):
     """Near a need, or any."""
     if judged_values(n, jobs) or one_in(5):
         return random.choice((0, 1, random.randrange(10000), random.randrange(MOST), MOST))
-    needs = [scored(jobs[:n], ts)[1] for ts in permitted(jobs[:n])] or [0]
+    needs = [math.ceil(need_of(jobs[:n], ts)) for ts in permitted(jobs[:n])] or [0]
     return max(0, random.choice((random.choice(needs), min(needs))) + random.choice((-1, 0, 0, 1)))
 
 
@@ -187,24 +189,25 @@ def counting():
 
 def scoring():
     n, jobs = profile()
-    verdict, need, loss = judged_values(n, jobs), 0, 0
+    verdict, whole, remainder, loss = judged_values(n, jobs), 0, 0, 0
     lists = [] if verdict else list(permitted(jobs[:n]))
     periods = [*random.choice(lists or [()]), *(random.choice((1, 7, 4000000000)) for _ in range(8))][:8]
     if one_in(3):
         periods[random.randrange(min(n, 8) or 1)] += random.choice((-1, 1, 60))
     if not verdict:
-        verdict, need, loss = scored(jobs[:n], periods)
+        verdict, whole, remainder, loss = scored(jobs[:n], periods)
     asked = f"{as_profile(n, jobs)} {as_list(f'seconds {t}' for t in periods)}"
-    return asked, as_answer(verdict, "noScore", f"scored {need} {loss}"), verdict
+    return asked, as_answer(verdict, "noScore", f"scored {whole} {remainder} {loss}"), verdict
 
 
 def choosing():
     n, jobs = profile()
     budget = budget_for(n, jobs)
-    verdict, need, loss, ts = judged_values(n, jobs), 0, 0, ()
+    verdict, (whole, remainder, loss), ts = judged_values(n, jobs), (0, 0, 0), ()
     if not verdict:
-        verdict, (need, loss), ts = chosen(jobs[:n], budget)
-    return f"{as_profile(n, jobs)} {budget}", as_answer(verdict, "noChoice", f"plan {need} {loss} {as_list(ts)}"), verdict
+        verdict, (whole, remainder, loss), ts = chosen(jobs[:n], budget)
+    plan = f"plan {whole} {remainder} {loss} {as_list(ts)}"
+    return f"{as_profile(n, jobs)} {budget}", as_answer(verdict, "noChoice", plan), verdict
 
 
 def looking_up():

@@ -1,9 +1,9 @@
-"""Document 01's rules, with the need of ticket 3, a second time: with exact fractions and strings of bits, by plain enumeration.
+"""Document 01's rules, with the need of tickets 3 and 4, a second time: exact fractions, strings of bits, plain enumeration.
 
 They share nothing with the crates, so that what is stored as right is no copy of what a program happened to write.
 """
 from fractions import Fraction
-from math import ceil
+from math import ceil, floor
 
 # lo, hi, data, metadata, stiffness, spare.
 WIDTHS = (12, 12, 15, 15, 6, 4)
@@ -71,18 +71,29 @@ def pages_in(jobs, periods, seconds):
     return data + sum(metadata)
 
 
+def need_of(jobs, periods):
+    """Exact pages per hour. What meets a budget, settles a tie or starts a row is rounded up."""
+    last = periods[len(jobs) - 1]
+    return Fraction(3600 * pages_in(jobs, periods, last), last)
+
+
+def loss_of(jobs, periods):
+    return sum(w * (3600 * (d + g) // lo - 3600 * (d + g) // t) ** 2 for (lo, _, d, g, w), t in zip(jobs, periods))
+
+
 def scored(jobs, periods):
+    """The verdict, the need's whole pages and its remainder over the last period, and the loss."""
     verdict = judged_values(len(jobs), jobs)
     if verdict:
-        return verdict, 0, 0
+        return verdict, 0, 0, 0
     before = 1
     for k, (job, t) in enumerate(zip(jobs, periods)):
         if not job[0] <= t <= job[1] or t % before:
-            return (13, k + 1), 0, 0
+            return (13, k + 1), 0, 0, 0
         before = t
-    need = ceil(Fraction(3600 * pages_in(jobs, periods, before), before))
-    loss = sum(w * (3600 * (d + g) // lo - 3600 * (d + g) // t) ** 2 for (lo, _, d, g, w), t in zip(jobs, periods))
-    return None, need, loss
+    need = need_of(jobs, periods)
+    whole = floor(need)
+    return None, whole, int((need - whole) * before), loss_of(jobs, periods)
 
 
 def permitted(jobs, before=1):
@@ -96,19 +107,20 @@ def permitted(jobs, before=1):
 
 
 def plans(jobs):
-    """All permitted lists behind their losses and needs, the best first."""
-    return sorted((loss, need, ts) for ts in permitted(jobs) for _, need, loss in [scored(jobs, ts)])
+    """All permitted lists behind their losses and needs, rounded up, the best first."""
+    return sorted((loss_of(jobs, ts), ceil(need_of(jobs, ts)), ts) for ts in permitted(jobs))
 
 
 def chosen(jobs, budget):
+    """The verdict, the score of the best periods, and these."""
     every = plans(jobs)
     if not every:
-        return (9, 0), (0, 0), ()
+        return (9, 0), (0, 0, 0), ()
     fitting = [plan for plan in every if plan[1] <= budget]
     if not fitting:
-        return (10, min(need for _, need, _ in every)), (0, 0), ()
-    loss, need, ts = fitting[0]
-    return None, (need, loss), ts
+        return (10, min(need for _, need, _ in every)), (0, 0, 0), ()
+    ts = fitting[0][2]
+    return None, scored(jobs, ts)[1:], ts
 
 
 def zone_rows(jobs):
@@ -125,7 +137,7 @@ def zone_rows(jobs):
 
 
 def ladder(jobs):
-    """The need, loss and periods of each different answer, in rising need."""
+    """The need, rounded up, the loss and the periods of each different answer, in rising need."""
     rows = []
     for loss, need, ts in plans(jobs):
         if not rows or need < rows[-1][0]:
@@ -165,8 +177,9 @@ def looked_up(n, jobs, table, budget):
     for number in range(1, len(table) // 16 + 1):
         bits = "".join(f"{byte:08b}" for byte in table[16 * number - 16:16 * number])
         start, periods = int(bits[:32], 2), [int(bits[at:at + 12], 2) for at in range(32, 128, 12)]
-        refusal, need, loss = scored(jobs[:n], periods)
-        if refusal or any(periods[n:]) or start != need or rows and not (start > rows[-1][0] and loss < rows[-1][1]):
+        refusal, _, _, loss = scored(jobs[:n], periods)
+        sound = not refusal and not any(periods[n:]) and start == ceil(need_of(jobs[:n], periods))
+        if not sound or rows and not (start > rows[-1][0] and loss < rows[-1][1]):
             return (12, number), 0
         rows.append((start, loss))
     if budget < rows[0][0]:

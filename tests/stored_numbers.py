@@ -15,8 +15,8 @@ def expected():
     yield from (told(None), str(len(data)), (data + b"\xee" * 3).hex(), told((11, len(data))), "ee" * 24)
 
     def score(jobs, *periods):
-        verdict, need, loss = scored(jobs, periods)
-        return told(verdict), str(need), str(loss)
+        verdict, *scores = scored(jobs, periods)
+        return told(verdict), *map(str, scores)
 
     yield "needs"
     yield from score(A, 25, 50, 100)
