@@ -3,7 +3,7 @@
 
 A crate drawn_K has a list of up to 300 cases and the claim that each is right. With --off-by-one for COUNT there is one crate,
 off_by_one, with two claims for each kind of case: of one as it was drawn, and of the same with an answer that is one too great
-somewhere. The names of the latter are printed.
+somewhere; and two more for each number of the need that a score or a choice tells. The names of the wrong claims are printed.
 """
 import collections
 import itertools
@@ -244,9 +244,17 @@ def drawn():
         yield Case(kind, *KINDS[kind]())
 
 
-def off_by_one(case):
-    """The case with the first number of its answer one greater."""
-    return case._replace(answer=re.sub(r"\b\d+\b", lambda number: str(int(number[0]) + 1), case.answer, count=1))
+# What is put off by one, as a kind of case, a place in its answer and whether that must be sound: what comes first in any answer of
+# each kind, and the two numbers of a need.
+OFF = {kind: (kind, 0, False) for kind in KINDS}
+for kind in ("scoring", "choosing"):
+    OFF |= {f"{kind}-whole": (kind, 0, True), f"{kind}-remainder": (kind, 1, True)}
+
+
+def off_by_one(case, place):
+    """The case with the number at this place of its answer, from 0, one greater; as it is where the answer has fewer."""
+    places = itertools.count()
+    return case._replace(answer=re.sub(r"\b\d+\b", lambda number: str(int(number[0]) + (next(places) == place)), case.answer))
 
 
 # Crates that claim cases to be right.
@@ -298,10 +306,11 @@ def main():
     random.seed(seed)
     if count == "--off-by-one":
         claims = []
-        for kind in KINDS:
-            case = next(case for case in drawn() if case.kind == kind and off_by_one(case) != case)
-            claims += [(f"{kind}-drawn", [case]), (f"{kind}-off", [off_by_one(case)])]
-            print(f"{kind}-off")
+        for name, (kind, place, sound) in OFF.items():
+            cases = (case for case in drawn() if case.kind == kind and not (sound and case.verdict))
+            case = next(case for case in cases if off_by_one(case, place) != case)
+            claims += [(f"{name}-drawn", [case]), (f"{name}-off", [off_by_one(case, place)])]
+            print(f"{name}-off")
         write_crate(repository, "off_by_one", claims)
         return
     cases = list(itertools.islice(drawn(), int(count)))
