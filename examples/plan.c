@@ -1,5 +1,5 @@
 /* Reads a profile, builds its budget table and looks budgets up in it, as firmware would: the table is built once and kept,
- * and a lookup tells the periods to write by, or why there are none. */
+ * a lookup tells the periods to write by, or why there are none, and a score what these periods need. */
 #include <inttypes.h>
 #include <stdio.h>
 
@@ -32,9 +32,16 @@ static void look_up(const uint32_t values[], uint64_t rows, uint32_t budget)
         return;
     }
     const uint8_t *row = table + 16 * (result - 1);
+    uint32_t periods[CHAROPLETH_MOST_JOBS];
+    for (uint32_t k = 0; k < CHAROPLETH_MOST_JOBS; k++)
+        periods[k] = period(row, k);
     for (uint32_t k = 0; k < values[0]; k++)
-        printf("%s%u", k ? " " : "", period(row, k));
-    printf("\n");
+        printf("%s%" PRIu32, k ? " " : "", periods[k]);
+    /* The row starts at the need rounded up. The score has it exactly: whole pages, and a remainder over the last period. */
+    uint64_t score[CHAROPLETH_SCORE_LENGTH];
+    charopleth_score(values[0], values + 1, periods, score);
+    printf(", need %" PRIu64 " %" PRIu64 "/%" PRIu32 " pages per hour\n", score[CHAROPLETH_WHOLE], score[CHAROPLETH_REMAINDER],
+           periods[values[0] - 1]);
 }
 
 int main(void)
