@@ -1,22 +1,18 @@
 -- What both walks leave is what is right for the jobs and the budget.
 -- Assumes nothing.
 use mathlib.Core.Path.{_≡_, sym, _∙_, ap, subst}
-use mathlib.Core.List.{List, [], _∷_}
-use Prim.Native.Nat.{ℕ, zero, suc, _^_, _≤_, _<_, zero-le}
-use native.Mathlib.Omega.{arith}
-use native.Mathlib.Nat.{le-trans}
+use mathlib.Core.List.{List, []}
+use Prim.Native.Nat.{ℕ}
 use lib.ListN.{getD}
-use Rattle.model.specs.declared.Seconds.{Seconds}
 use Rattle.model.specs.declared.PagesPerHour.{PagesPerHour}
 use Rattle.model.specs.declared.Job.{Job}
 use Rattle.model.specs.declared.Verdict.the-variants.{NoPeriods, Budget}
-use Rattle.model.specs.Model.{seconds, pagesPerHour, PermittedAfter}
-use Rattle.model.specs.Valid.{ValidJobs}
+use Rattle.model.specs.Model.{seconds, pagesPerHour}
 use Rattle.choose.specs.Choice.{answered, noChoice, Outcome, given}
 use Rattle.choose.specs.Least.{LeastOrNone}
-use Rattle.walk.specs.Walk.{start, walk, walkDown}
-use Rattle.choose_offer.specs.Found.{nothing, found, pick}
-use Rattle.choose_walk.specs.Least.{none, least, lessNeed}
+use Rattle.walk.specs.Walk.{start, walk}
+use Rattle.choose_offer.specs.Found.{nothing, pick}
+use Rattle.choose_walk.specs.Least.{none, least}
 use Rattle.choose_walk.specs.Best.{BestFound, BestOrNone}
 use Rattle.walk.specs.Arrays.{Held}
 use Rattle.walk.specs.Steps.{periodsIn}

@@ -1,11 +1,11 @@
 -- A need without rounding: whole pages and remainder together are 3,600 times the pages of Tn seconds, and rounded up they are what the
 -- need was before a remainder was told. Assumes nothing.
-use mathlib.Core.Path.{_≡_, refl, _∙_, ap, ap₂}
+use mathlib.Core.Path.{_≡_, refl, ap}
 use mathlib.Core.List.{List, [], _∷_}
 use mathlib.Core.Bool.{Bool, true, false, cond}
 use Prim.Native.Nat.{ℕ, zero, suc, _+_, _*_, _-_, _/_, _%_, _≤_, _<_}
 use native.Mathlib.Omega.{arith}
-use native.Mathlib.Nat.{le-antisymm, le-of-mul-le-mul-right, lt-of-mul-lt-mul-right, div-add-mod', mod-lt, zero-div, zero-mod}
+use native.Mathlib.Nat.{le-antisymm, le-of-mul-le-mul-right, lt-of-mul-lt-mul-right, div-add-mod', mod-lt, zero-div}
 use lib.Dec.{eqb}
 use borrow.Author.Tests.{eqb-true, eqb-false}
 use Rattle.model.specs.declared.Seconds.{Seconds}

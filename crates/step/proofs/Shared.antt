@@ -18,7 +18,7 @@ use Rattle.model.specs.Model.{seconds, pagesPerHour, PermittedAfter, Permitted,
 use Rattle.model.specs.Rounding.{roundUp}
 use Rattle.model.specs.Valid.{ValidJobs}
 use Rattle.model.proofs.Rounding.{round-up-scaled, multiple-is, multiple-above, factors}
-use Rattle.model.proofs.Exact.{remainder-below, need-as-it-was}
+use Rattle.model.proofs.Exact.{remainder-below, exact-need-is, need-as-it-was}
 use Rattle.step.specs.Step.{load, loadsIn, pagesAfter, needAfter}
 use Rattle.step.proofs.Fits.{need-rounded}
 use Rattle.step.proofs.Pages.{multiple-trans, last-multiple, last-positive, pages-after}
@@ -213,12 +213,29 @@ module _ (js : List Job) (ts : List Seconds) (v : ValidJobs js) (h : Permitted j
   unfolding exactNeed
   exact-remainder-below = remainder-below _ _ (last-positive (seconds 1) js ts v (omega arith) h)
 
-  -- And it is the same over any number of cycles, a cycle being Tn seconds, which every period divides.
+  -- The pages of k cycles, a cycle being Tn seconds, which every period divides, are k times those of one.
+  cycles : (k : ℕ) → let last = lastOf (seconds 1) ts in pagesIn (seconds (k * last .0)) js ts ≡ k * pagesIn last js ts
+  cycles k =
+      let last = lastOf (seconds 1) ts in
+      pages-by-load js ts v h (seconds (k * last .0)) ∙ loads-times k 0 (seconds 1) js ts v h ∙ ap (λ (x : ℕ). k * x) (sym (pages-by-load js ts v h last))
+
+  -- So the need rounded up is the same over any number of them,
   pub any-cycles : (k : ℕ) → 1 ≤ k → let last = lastOf (seconds 1) ts in roundUp (3600 * pagesIn (seconds (k * last .0)) js ts) (k * last .0) ≡ need js ts .0
   any-cycles k pos =
       let last = lastOf (seconds 1) ts in
       let pages = pagesIn last js ts in
-      let one = pages-by-load js ts v h last in
-      let times : pagesIn (seconds (k * last .0)) js ts ≡ k * pages = pages-by-load js ts v h (seconds (k * last .0)) ∙ loads-times k 0 (seconds 1) js ts v h ∙ ap (λ (x : ℕ). k * x) (sym one) in
+      let times = cycles k in
       let all : 3600 * pagesIn (seconds (k * last .0)) js ts ≡ 3600 * pages * k = omega arith in
       ap (λ (x : ℕ). roundUp x (k * last .0)) all ∙ round-up-scaled (3600 * pages) (last .0) k (last-positive (seconds 1) js ts v (omega arith) h) pos ∙ ap (λ (q : PagesPerHour). q .0) (sym (need-as-it-was js ts))
+
+  -- and hours of the need without rounding add up to the pages that are written in them, where whole cycles fill them.
+  pub hours-add-up : (hours k : ℕ) → let last = lastOf (seconds 1) ts in 3600 * hours ≡ k * last .0 →
+      hours * (exactNeed js ts .whole .0 * last .0 + exactNeed js ts .remainder .0) ≡ pagesIn (seconds (3600 * hours)) js ts * last .0
+  hours-add-up hours k fill =
+      let last = lastOf (seconds 1) ts in
+      let pages = pagesIn last js ts in
+      let exact = ap (λ (x : ℕ). hours * x) (exact-need-is js ts) in
+      let written : pagesIn (seconds (3600 * hours)) js ts ≡ k * pages = ap (λ (x : ℕ). pagesIn (seconds x) js ts) fill ∙ cycles k in
+      let there = ap (λ (x : ℕ). x * last .0) written in
+      let here = ap (λ (x : ℕ). pages * x) fill in
+      omega arith

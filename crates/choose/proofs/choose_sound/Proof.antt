@@ -7,7 +7,6 @@ use Rattle.walk.specs.Arrays.{Held}
 use Rattle.walk.proofs.Filled.{all-held}
 use Rattle.walk.proofs.Cuts.{ready-start}
 use Rattle.choose.proofs.Answered.{best-found, plan-right, none-right, least-right}
-use native.Mathlib.Omega.{arith}
 use Rattle.choose.proofs.choose_sound.Statement.{statement}
 use Rattle.choose.proofs.choose_sound.Tie as tie
 
