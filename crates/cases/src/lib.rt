@@ -3,3 +3,4 @@
 // There is no code here. specs/Case.antt says what a case is, specs/Cases.antt holds the list, proofs/Worked.antt the one claim
 // about all its entries. specs/Wrong.antt has the wrong programs that the rules name, proofs/Wrong.antt that no contract admits them.
 // Nothing is assumed.
+#![tactic(auto)]

@@ -2,6 +2,7 @@
 //
 // specs/Found.antt says what is kept, specs/Steps.antt what these functions ask and promise. They serve other crates of the
 // planner, and their callers meet what is required. Nothing is assumed.
+#![tactic(auto)]
 ghost use Rattle.std.specs.Prelude.{◌≡◌, false, ◌<◌};
 ghost use Rattle.step.specs.Step.{NeedFits};
 ghost use Rattle.walk.specs.Steps.{ReadyForCut};

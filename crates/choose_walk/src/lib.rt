@@ -3,6 +3,7 @@
 // specs/Least.antt says what the second keeps, specs/Steps.antt what these functions ask and promise; proofs/Fold.antt shows
 // that the first ends with the best. They serve other crates of the planner, and their callers meet what is required.
 // Nothing is assumed.
+#![tactic(auto)]
 ghost use Rattle.std.specs.Prelude.{◌≡◌, false, min};
 ghost use Rattle.walk.specs.Steps.{Ready, ReadyForCut};
 ghost use Rattle.choose_offer.specs.Steps.{Sizes};

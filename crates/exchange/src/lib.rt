@@ -2,6 +2,7 @@
 //
 // specs/Numbers.antt says which numbers stand for what, those that `exchange_put` stores among them. These functions serve the
 // planner's functions for C, which meet what is required. Nothing is assumed.
+#![tactic(auto)]
 ghost use Rattle.std.specs.Prelude.{◌≡◌, ◌<◌};
 ghost use Rattle.exchange.specs.Numbers.{result_of, counted_of, job_in, profile_in, eight_periods_in};
 

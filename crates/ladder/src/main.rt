@@ -1,6 +1,7 @@
 // The ladder program: reads a profile from standard input and prints its budget table, or the number and detail of its
 // refusal. What each line holds is proved in the library `ladder_listing`; here is the loop that writes the lines, and no more. A
 // read that fails ends the input, and a write that fails ends the program.
+#![tactic(auto)]
 use libc::{STDIN_FILENO, STDOUT_FILENO};
 
 // 66 bytes settle what is printed: a longer input is refused as its first 66 bytes are.

@@ -2,6 +2,7 @@
 //
 // specs/Lines.antt says which bytes a line has, and specs/Writing.antt what putting them does to a text. The functions serve
 // `listing`, and their callers meet what they require. Nothing is assumed.
+#![tactic(auto)]
 ghost use Rattle.std.specs.Prelude.{◌+◌, ◌*◌, ◌≤◌, length};
 ghost use Rattle.model.specs.Model.{seconds, entries};
 ghost use Rattle.ladder_line.specs.Lines.{decimal, spaced, spaced_periods, refusal_line, header_line, row_line};

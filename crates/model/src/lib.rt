@@ -2,6 +2,7 @@
 //
 // specs/Model.antt says what a plan is and when it is right; every public contract of the planner is stated with it.
 // Nothing is assumed, and but for `allowed` no function here has a `requires`.
+#![tactic(auto)]
 ghost use Rattle.std.specs.Prelude.{◌≡◌, ◌≤◌};
 ghost use Rattle.model.specs.Model.{count_verdict};
 ghost use Rattle.model.specs.Testing.{allows};
@@ -88,6 +89,7 @@ pub struct Counted {
 }
 
 // The verdict on `count` rows for `size` lent bytes, past the profile's own: 9 where there are none, then 11.
+#[tactic(auto, unfolding(crate::specs::Model::refuse_if))]
 pub fn judge_count(count: u64, size: usize) -> Verdict
     ensures { result ≡ count_verdict count size }
 {
@@ -102,6 +104,7 @@ pub fn judge_count(count: u64, size: usize) -> Verdict
 }
 
 // Whether a job allows a period after the period `before`; for the crates above, which have one.
+#[tactic(auto, unfolding(crate::specs::Testing::allows))]
 pub fn allowed(j: Job, before: Seconds, t: Seconds) -> bool
     requires { 1 ≤ before.0 }
     ensures { result ≡ allows j before t }

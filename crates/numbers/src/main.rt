@@ -1,5 +1,6 @@
 // Runs the numbers of document 01, with the need of tickets 3 and 4, and a bad input for each refusal, and prints what comes out.
 // The file stdout beside src/ is what must come out.
+#![tactic(auto)]
 ghost use Rattle.std.specs.Prelude.{◌≡◌, ◌<◌, length};
 
 use libc::STDOUT_FILENO;

@@ -4,6 +4,7 @@
 // Each operation's contract stands where it is made; docs/CONTRACTS.md lists them in reading order. specs/ForC.antt says
 // what C's functions may answer, and `exchange` which numbers stand for what. Nothing is assumed, and no public function has
 // a `requires`.
+#![tactic(auto)]
 ghost use Rattle.model.specs.Model.{pages_per_hour};
 ghost use Rattle.profile_read.specs.Reading.{Reads};
 ghost use Rattle.profile_write.specs.Writing.{Writes};

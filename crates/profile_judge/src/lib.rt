@@ -2,6 +2,7 @@
 //
 // What is judged, and in which order, is said in specs/Model.antt of model. Nothing is assumed, and no function has a
 // `requires`.
+#![tactic(auto)]
 ghost use Rattle.std.specs.Prelude.{◌≡◌};
 ghost use Rattle.model.specs.Model.{bad_interval, bad_stiffness, judge_interval_and_stiffness, judge_job, verdict_of};
 

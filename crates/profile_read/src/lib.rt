@@ -2,6 +2,7 @@
 //
 // specs/Reading.antt says what bytes stand for and what reading may answer; specs/Fields.antt serves the private functions
 // alone. Nothing is assumed, and no public function has a `requires`.
+#![tactic(auto)]
 ghost use Rattle.std.specs.Prelude.{◌≡◌, ◌+◌, ◌≤◌, ◌<◌, length, drop};
 ghost use Rattle.model.specs.Model.{no_job, first_refused};
 ghost use Rattle.codec.specs.Packing.{unpack};

@@ -2,6 +2,7 @@
 //
 // specs/Writing.antt says what writing may answer and leave in a lent buffer. Nothing is assumed, and no public function
 // has a `requires`. proofs/RoundTrip.antt says that what was written reads back, and what was read is written back.
+#![tactic(auto)]
 ghost use Rattle.std.specs.Prelude.{◌≡◌, ◌++◌, ◌≤◌, length, drop};
 ghost use Rattle.model.specs.Valid.{Valid, ValidJob};
 ghost use Rattle.codec.specs.Packing.{pack};

@@ -2,6 +2,7 @@
 //
 // specs/Scoring.antt says what is answered, with the model's need and loss; crate step says what each job adds to them.
 // Nothing is assumed, and no public function has a `requires`.
+#![tactic(auto)]
 ghost use Rattle.model.specs.Model.{jobs_of, periods_of};
 ghost use Rattle.model.specs.Valid.{Valid};
 ghost use Rattle.score.specs.Scoring.{Scoring, Scores};

@@ -3,6 +3,7 @@
 //
 // specs/Step.antt says what is reckoned, and proofs/ that so carried along it is the model's need, counted moment by moment, and
 // its loss. These functions serve other crates of the planner, and their callers meet what they require. Nothing is assumed.
+#![tactic(auto)]
 ghost use Rattle.std.specs.Prelude.{◌≡◌, ◌≤◌, max};
 ghost use Rattle.model.specs.Model.{cost, per_hour, rounded_up, rate, job_loss};
 ghost use Rattle.model.specs.Most.{most_pages, most_need};

@@ -3,6 +3,7 @@
 // specs/Lookup.antt says what is answered; a table's rows stand in crate table_row, and when they are well formed in crate
 // table_check. specs/AsChosen.antt serves theorems; no contract cites it.
 // Nothing is assumed, and no public function has a `requires`.
+#![tactic(auto)]
 ghost use Rattle.std.specs.Prelude.{ℕ};
 ghost use Rattle.table_lookup.specs.Lookup.{Answers, Locates, JudgesLookup, LooksUp};
 

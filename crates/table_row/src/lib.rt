@@ -4,6 +4,7 @@
 // specs/Table.antt says what a table's rows and fields are, specs/Cut.antt how a row is held and which may follow another. Every
 // reader and writer of table rows goes through this crate. These functions serve other crates of the planner, and their
 // callers meet what they require. Nothing is assumed.
+#![tactic(auto)]
 ghost use Rattle.std.specs.Prelude.{◌≡◌, map, ◌<◌};
 ghost use Rattle.codec.specs.RowWords.{with_row};
 ghost use Rattle.model.specs.Model.{seconds, pages_per_hour};

@@ -3,6 +3,7 @@
 // specs/Chains.antt and specs/Walk.antt say what the walk is without its cuts, and proofs/ hold its laws, whatever a walk
 // keeps as it goes. specs/Arrays.antt says how a profile's numbers are lent, and specs/Steps.antt what these functions ask and
 // promise; they serve other crates of the planner, and their callers meet what they require. Nothing is assumed.
+#![tactic(auto)]
 ghost use Rattle.std.specs.Prelude.{◌≡◌, true, false, ◌+◌, ◌*◌, ◌/◌, ◌≤◌, ◌<◌, max, get_or};
 ghost use Rattle.model.specs.Model.{pages_per_hour};
 ghost use Rattle.model.specs.Most.{most_need, most_loss};

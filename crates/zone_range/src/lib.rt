@@ -1,6 +1,7 @@
 // What a multiplier allows: the multipliers to try for a job, and the range of first periods that one of them leaves.
 //
 // The functions serve the walk over the zones, which meets what they require. Nothing is assumed.
+#![tactic(auto)]
 ghost use Rattle.std.specs.Prelude.{◌≡◌, ◌*◌, ◌/◌, ◌^◌, ◌≤◌, min, max, ltb};
 ghost use Rattle.model.specs.Rounding.{round_up};
 
