@@ -14,7 +14,7 @@ use choose_offer::{LOSS, NO_PLAN};
 use model::{ExactNeed, PagesPerHour, Profile, Seconds, Verdict, ZERO_NEED};
 
 // What `choose` answers: the periods (zeros beyond n), their need without rounding, and their loss; beside a refusal all zeros.
-#[derive(Drop)]
+#[derive(Clone, Copy)]
 pub struct Choice {
     pub verdict: Verdict,
     pub periods: [Seconds; 8],

@@ -64,7 +64,7 @@ fn field_width(k: usize) -> u64
 }
 
 // A row of sixteen bytes as two words, the most significant first.
-#[derive(Drop)]
+#[derive(Clone, Copy)]
 pub struct RowWords {
     pub high: u64,
     pub low: u64,

@@ -10,7 +10,7 @@ ghost use Rattle.ladder_listing.specs.Listing.{line_of_row, Prepares, Prints};
 use model::{Profile, ROW_SIZE, Verdict};
 
 // A profile and the number of rows of its table, or why there is none; beside a refusal zeros.
-#[derive(Drop)]
+#[derive(Clone, Copy)]
 pub struct Listing {
     pub verdict: Verdict,
     pub profile: Profile,

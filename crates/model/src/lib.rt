@@ -8,21 +8,21 @@ ghost use Rattle.model.specs.Model.{count_verdict};
 ghost use Rattle.model.specs.Testing.{allows};
 
 // Whole seconds: a period, or an end of a job's interval.
-#[derive(Drop)]
+#[derive(Clone, Copy)]
 pub struct Seconds(pub u32);
 
 // Flash pages per hour: a budget, a need or a rate. A small budget passes every range check of a period, so the two
 // are never the same type.
-#[derive(Drop)]
+#[derive(Clone, Copy)]
 pub struct PagesPerHour(pub u32);
 
 // What a need has beyond its whole pages, in parts of a page per hour, of which the last period Tn makes one: a number below Tn,
 // and no page rate.
-#[derive(Drop)]
+#[derive(Clone, Copy)]
 pub struct Remainder(pub u32);
 
 // A need without rounding: whole pages per hour, and the remainder over the last period.
-#[derive(Drop)]
+#[derive(Clone, Copy)]
 pub struct ExactNeed {
     pub whole: PagesPerHour,
     pub remainder: Remainder,
@@ -35,7 +35,7 @@ pub const ZERO_NEED: ExactNeed = ExactNeed {
 };
 
 // One write job. Every number that can be judged can be given.
-#[derive(Drop)]
+#[derive(Clone, Copy)]
 pub struct Job {
     // The shortest and the longest period.
     pub lo: Seconds,
@@ -47,7 +47,7 @@ pub struct Job {
 }
 
 // A profile as values: the first n of the eight jobs, in their fixed order. Jobs beyond n are ignored.
-#[derive(Drop)]
+#[derive(Clone, Copy)]
 pub struct Profile {
     pub n: u32,
     pub jobs: [Job; 8],
@@ -55,7 +55,7 @@ pub struct Profile {
 
 // What an operation says of its input: sound, or why it refuses. A refusal's detail is what the variant holds; crate
 // `refusal` tells its number and its detail.
-#[derive(Drop)]
+#[derive(Clone, Copy)]
 pub enum Verdict {
     Sound,
     // 1 to 4: the profile as a whole.
@@ -82,7 +82,7 @@ pub enum Verdict {
 pub const ROW_SIZE: usize = 16;
 
 // A verdict and a number: how many bytes or rows were written, or which row answers, counted from 1; 0 beside a refusal.
-#[derive(Drop)]
+#[derive(Clone, Copy)]
 pub struct Counted {
     pub verdict: Verdict,
     pub count: u64,

@@ -13,14 +13,14 @@ ghost use Rattle.profile_read.specs.Fields.{record_of, fields_at, judge_cut, pro
 use model::{Job, Profile, Seconds, Verdict};
 
 // What reading answers: the values, all zeros beside a refusal.
-#[derive(Drop)]
+#[derive(Clone, Copy)]
 pub struct Reading {
     pub verdict: Verdict,
     pub profile: Profile,
 }
 
 // A job's record as its bits have it.
-#[derive(Drop)]
+#[derive(Clone, Copy)]
 struct Record {
     job: Job,
     spare: u32,

@@ -10,7 +10,7 @@ ghost use Rattle.score.specs.Scoring.{Scoring, Scores};
 use model::{ExactNeed, Profile, Seconds, Verdict, ZERO_NEED};
 
 // What scoring answers: need, without rounding, and loss; zeros beside a refusal.
-#[derive(Drop)]
+#[derive(Clone, Copy)]
 pub struct Scored {
     pub verdict: Verdict,
     pub need: ExactNeed,

@@ -18,7 +18,7 @@ use model::{PagesPerHour, Seconds};
 const START: u64 = 0x1_0000_0000;
 
 // A table row's start and its eight periods.
-#[derive(Drop)]
+#[derive(Clone, Copy)]
 pub struct TableRow {
     pub start: PagesPerHour,
     pub periods: [Seconds; 8],

@@ -14,7 +14,7 @@ use model::{PagesPerHour, Seconds};
 
 // The periods that a job may try after one of `step` seconds: from `first` to `last`, each a step above the one before; none
 // where `last` is below `first`.
-#[derive(Drop)]
+#[derive(Clone, Copy)]
 pub struct Tries {
     pub first: Seconds,
     pub last: Seconds,
