@@ -5,6 +5,7 @@
 // `put_row` and `get_row` promise. These functions serve other crates of the planner, and their callers meet what they
 // require. Nothing is assumed.
 #![tactic(auto)]
+
 ghost use Rattle.std.specs.Prelude.{◌≡◌, ◌++◌, ◌+◌, ◌≤◌, ◌<◌, length, get_or, take, drop};
 ghost use Rattle.codec.specs.Packing.{pack, unpack};
 ghost use Rattle.codec.specs.Layout.{job_widths, byte_widths};

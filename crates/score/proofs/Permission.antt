@@ -110,7 +110,9 @@ permitted_or_first_out js ts h =
 -- never both, and never two
 pub permitted_none_out : {before : Seconds} (js : List Job) (ts : List Seconds) {k : ℕ} → PermittedAfter before js ts → FirstOut before js ts k → ⊥
 permitted_none_out (j ∷ js) (t ∷ ts) p (here out) = out p.0
-permitted_none_out (j ∷ js) (t ∷ ts) p (later a f) = permitted_none_out js ts p.1 f
+permitted_none_out {before = before} (j ∷ js) (t ∷ ts) p (later {k = k} a f) = permitted_none_out {before = t} js ts {k = k} p.1 f
+permitted_none_out [] ts p out = elim out [ ]
+permitted_none_out (j ∷ js) [] p out = elim p [ ]
 
 pub one_first_out : {before : Seconds} {js : List Job} {ts : List Seconds} {k m : ℕ} → FirstOut before js ts k → FirstOut before js ts m → k ≡ m
 one_first_out (here out) (here out') = refl

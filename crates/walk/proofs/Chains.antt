@@ -78,7 +78,7 @@ module _ {periods : Seconds → Job → List Seconds} (law : ListsAllowed period
       let b = Memᴰ.of_map (λ (us : List Seconds). t ∷ us) (chains_by periods t js) r.2 in
       let a : Allowed j before t = law.only pos r.1 in
       let next : 1 ≤ t.0 = omega arith in
-      subst (λ (l : List Seconds). PermittedAfter before (j ∷ js) l) b.2 (a, chains_only js b.0 v.1 next b.1)
+      subst (λ (l : List Seconds). PermittedAfter before (j ∷ js) l) b.2 (a, chains_only {before = t} js b.0 v.1 next b.1)
 
   -- every permitted list is a chain
   pub chains_all : {before : Seconds} (js : List Job) (ts : List Seconds) → ValidJobs js → 1 ≤ before.0 → PermittedAfter before js ts → Memᴰ ts (chains_by periods before js)
@@ -88,7 +88,7 @@ module _ {periods : Seconds → Job → List Seconds} (law : ListsAllowed period
   chains_all (j ∷ js) [] v pos h = absurd h
   chains_all {before} (j ∷ js) (t ∷ ts) v pos h =
       let next : 1 ≤ t.0 = omega arith in
-      flat_has (λ (u : Seconds). map (λ us. u ∷ us) (chains_by periods u js)) (periods before j) (law.all pos h.0) (Memᴰ.map (λ (us : List Seconds). t ∷ us) (chains_all js ts v.1 next h.1))
+      flat_has (λ (u : Seconds). map (λ us. u ∷ us) (chains_by periods u js)) (periods before j) (law.all pos h.0) (Memᴰ.map (λ (us : List Seconds). t ∷ us) (chains_all {before = t} js ts v.1 next h.1))
 
 pub multiples_rising : (before : Seconds) (j : Job) → RisingPeriods (multiples before j)
 unfolding multiples rising_from

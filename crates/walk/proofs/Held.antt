@@ -45,11 +45,11 @@ module _ {spans pages rates stiffnesses : List ℕ} where
 
   pub held_valid : {i n greatest : ℕ} (js : List Job) → Held spans pages rates stiffnesses i n greatest js → ValidJobs js
   held_valid [] h = tt
-  held_valid (j ∷ js) h = (h.jobs.0.valid, held_valid js (held_next j js h))
+  held_valid {i = i} (j ∷ js) h = (h.jobs.0.valid, held_valid {i = i + 1} js (held_next j js h))
 
   pub held_at : {i n greatest : ℕ} (k : ℕ) (js : List Job) → i ≤ k → k < n → Held spans pages rates stiffnesses i n greatest js → JobAt spans pages rates stiffnesses k js
   held_at k [] from to h = let c = h.count in absurd (omega arith)
-  held_at {i} {greatest = g} k (j ∷ js) from to h = go (ℕ_discrete i k) (λ f. held_at k js f to (held_next j js h))
+  held_at {i} {greatest = g} k (j ∷ js) from to h = go (ℕ_discrete i k) (λ f. held_at {i = i + 1} k js f to (held_next j js h))
     where
       go : Dec (i ≡ k) → (i + 1 ≤ k → JobAt spans pages rates stiffnesses k js) → JobAt spans pages rates stiffnesses k (j ∷ js)
       go (yes e) ih = record { greatest = g; job = j; rest = js; member = Memᴰ.head refl; holds = subst (λ (x : ℕ). HoldsJob spans pages rates stiffnesses x g j js) e h.jobs.0 }
