@@ -3,6 +3,7 @@
 // specs/Model.antt says what a plan is and when it is right; every public contract of the planner is stated with it.
 // Nothing is assumed, and but for `allowed` no function here has a `requires`.
 #![tactic(auto)]
+
 ghost use Rattle.std.specs.Prelude.{◌≡◌, ◌≤◌};
 ghost use Rattle.model.specs.Model.{count_verdict};
 ghost use Rattle.model.specs.Testing.{allows};
