@@ -3,6 +3,7 @@
 // specs/Numbers.antt says which numbers stand for what, those that `exchange_put` stores among them. These functions serve the
 // planner's functions for C, which meet what is required. Nothing is assumed.
 #![tactic(auto)]
+
 ghost use Rattle.std.specs.Prelude.{◌≡◌, ◌<◌};
 ghost use Rattle.exchange.specs.Numbers.{result_of, counted_of, job_in, profile_in, eight_periods_in};
 
@@ -42,6 +43,7 @@ pub fn job(jobs: &[u32; 40], at: usize) -> Job
 }
 
 // Eight numbers as periods.
+#[tactic(auto, unfolding(model::specs::Model::entries))]
 pub fn as_periods(periods: &[u32; 8]) -> [Seconds; 8]
     ensures { result ≡ eight_periods_in periods.now }
 {
@@ -58,6 +60,7 @@ pub fn as_periods(periods: &[u32; 8]) -> [Seconds; 8]
 }
 
 // A count, or the refusal beside which it is 0, as one number.
+#[tactic(auto, using(model::proofs::Verdicts::sound_of_zero), unfolding(crate::specs::Numbers::counted_of, model::specs::Model::if_sound))]
 pub fn counted(c: Counted) -> u64
     ensures { result ≡ counted_of c }
 {
@@ -72,6 +75,7 @@ pub fn counted(c: Counted) -> u64
 }
 
 // A verdict as one number: the refusal's number above its detail.
+#[tactic(auto, using(model::proofs::Verdicts::number_small), unfolding(crate::specs::Numbers::result_of))]
 pub fn result(v: Verdict) -> u64
     ensures { result ≡ result_of v }
 {

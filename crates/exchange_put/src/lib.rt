@@ -3,6 +3,7 @@
 // Which numbers they are is said in specs/Numbers.antt of exchange. These functions serve the planner's functions for C, which
 // meet what is required. Nothing is assumed.
 #![tactic(auto)]
+
 ghost use Rattle.std.specs.Prelude.{◌≡◌, ◌<◌};
 ghost use Rattle.std.proofs.lemmas.List.Edits.{sets};
 ghost use Rattle.exchange.specs.Numbers.{job_numbers, numbers_of, answer_of};

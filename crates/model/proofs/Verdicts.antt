@@ -8,17 +8,10 @@ use borrow.Author.Tests.{eqb-true, eqb-false, ne_eqb}
 use Prim.Native.Nat.{ℕ, ◌+◌, ◌-◌, ◌≤◌, ◌<◌}
 use native.Mathlib.Omega.{arith}
 use lib.ListN.{get_or}
-use types.Run.{OneOf, miss}
-use denote.Enum.Declared.{tag_of}
 use Rattle.model.specs.declared.Verdict.{Verdict}
 use Rattle.model.specs.declared.Verdict.TheVariants.{Sound, NoBytes, Edition, JobCount, Length, Interval, Stiffness, Spare, Pages, NoPeriods, Budget, Room, Row, Periods}
 use Rattle.model.specs.Model.{number_of, refuse_if, or_else, if_sound, entries, first_refused}
-use Rattle.model.specs.contracts.Verdict.{the_type}
 use Rattle.model.proofs.Entries.{entries_step, entries_end}
-
--- the variants that the `else` may hold
-abbrev pub refusals : List ℕ
-refusals = 1 ∷ 2 ∷ 3 ∷ 4 ∷ 5 ∷ 6 ∷ 7 ∷ 8 ∷ 9 ∷ 10 ∷ 11 ∷ 12 ∷ 13 ∷ []
 
 -- v, told to be a, is sound: what comes after it decides
 pub sound_passes : {v a : Verdict} (rest : Verdict) → v ≡ a → v ≡ Sound → or_else a rest ≡ rest
@@ -29,8 +22,8 @@ sound_passes rest e s = rw (← e, s)
 abbrev pub Refuses : Verdict → Type 0
 Refuses v = T (ltb 0 (number_of v))
 
-pub refuses : (v : Verdict) → OneOf refusals (tag_of the_type v) → Refuses v
-refuses Sound h = absurd (miss refusals 0 tt h)
+pub refuses : (v : Verdict) → (v ≡ Sound → ⊥) → Refuses v
+refuses Sound h = absurd (h refl)
 refuses NoBytes h = tt
 refuses Edition h = tt
 refuses JobCount h = tt
@@ -49,7 +42,7 @@ not_zero : (v : Verdict) → Refuses v → eqb (number_of v) 0 ≡ false
 not_zero v h = ne_eqb (number_of v) 0 (λ e. subst (λ (n : ℕ). T (ltb 0 n)) e h)
 
 -- v, told to be a, is a refusal: it stands before whatever would come after it
-pub refused_stays : {v a : Verdict} (rest : Verdict) → v ≡ a → OneOf refusals (tag_of the_type v) → v ≡ or_else a rest
+pub refused_stays : {v a : Verdict} (rest : Verdict) → v ≡ a → (v ≡ Sound → ⊥) → v ≡ or_else a rest
 unfolding or_else refuse_if
 refused_stays {v} rest e h = sym (rw (← e, not_zero v (refuses v h)))
 
@@ -123,3 +116,8 @@ number_small (Budget b) = omega arith
 number_small (Room k) = omega arith
 number_small (Row k) = omega arith
 number_small (Periods k) = omega arith
+
+-- a verdict that is not sound stands before whatever would come after it
+pub unsound_stays : (v rest : Verdict) → (v ≡ Sound → ⊥) → or_else v rest ≡ v
+unfolding or_else
+unsound_stays v rest n = rw (ne_eqb (number_of v) 0 (λ z. n (sound_of_zero v z)))

@@ -1,10 +1,11 @@
 // The planner: everything that callers use in one place. Rattle's callers get the values and the operations under their own names,
-// C gets the functions that include/charopleth.h declares.
+// and the functions that include/charopleth.h declares, which crate `planner_c` exports to C.
 //
 // Each operation's contract stands where it is made; docs/CONTRACTS.md lists them in reading order. specs/ForC.antt says
 // what C's functions may answer, and `exchange` which numbers stand for what. Nothing is assumed, and no public function has
 // a `requires`.
 #![tactic(auto)]
+
 ghost use Rattle.model.specs.Model.{pages_per_hour};
 ghost use Rattle.profile_read.specs.Reading.{Reads};
 ghost use Rattle.profile_write.specs.Writing.{Writes};
@@ -27,8 +28,7 @@ pub use table_lookup::{judge_lookup, lookup};
 pub use zones::list_zones;
 
 // The values that a profile's bytes stand for, into 41 numbers.
-#[unsafe(no_mangle)]
-pub extern "C" fn charopleth_read(bytes: &[u8], values: &mut [u32; 41]) -> u64
+pub fn charopleth_read(bytes: &[u8], values: &mut [u32; 41]) -> u64
     ensures { LeavesForC (Reads bytes.now) (λ a. a.verdict) (λ a. numbers_of a.profile) values.old result values.new }
 {
     let r = profile_read::read_profile(bytes);
@@ -42,8 +42,7 @@ pub extern "C" fn charopleth_read(bytes: &[u8], values: &mut [u32; 41]) -> u64
 }
 
 // A profile's bytes to the front of a lent room; the count of bytes.
-#[unsafe(no_mangle)]
-pub extern "C" fn charopleth_write(n: u32, jobs: &[u32; 40], room: &mut [u8]) -> u64
+pub fn charopleth_write(n: u32, jobs: &[u32; 40], room: &mut [u8]) -> u64
     ensures { CountsForC (λ a. Writes (profile_in n jobs.now) room.old a room.new) result }
 {
     let c = profile_write::write_profile(exchange::profile(n, jobs), room);
@@ -51,13 +50,7 @@ pub extern "C" fn charopleth_write(n: u32, jobs: &[u32; 40], room: &mut [u8]) ->
 }
 
 // The need of given periods, whole pages and remainder, and their loss, into three numbers.
-#[unsafe(no_mangle)]
-pub extern "C" fn charopleth_score(
-    n: u32,
-    jobs: &[u32; 40],
-    periods: &[u32; 8],
-    answer: &mut [u64; 3],
-) -> u64
+pub fn charopleth_score(n: u32, jobs: &[u32; 40], periods: &[u32; 8], answer: &mut [u64; 3]) -> u64
     ensures { LeavesForC (Scores (profile_in n jobs.now) (eight_periods_in periods.now)) (λ a. a.verdict) (λ a. score_of a.need a.loss) answer.old result answer.new }
 {
     let s = score::score(exchange::profile(n, jobs), exchange::as_periods(periods));
@@ -72,13 +65,7 @@ pub extern "C" fn charopleth_score(
 }
 
 // The best periods for a budget.
-#[unsafe(no_mangle)]
-pub extern "C" fn charopleth_choose(
-    n: u32,
-    jobs: &[u32; 40],
-    budget: u32,
-    answer: &mut [u64; 11],
-) -> u64
+pub fn charopleth_choose(n: u32, jobs: &[u32; 40], budget: u32, answer: &mut [u64; 11]) -> u64
     ensures { LeavesForC (Chosen (profile_in n jobs.now) (pages_per_hour budget)) (λ a. a.verdict) (λ a. answer_of a.need a.loss a.periods) answer.old result answer.new }
 {
     let c = choose::choose(exchange::profile(n, jobs), PagesPerHour(budget));
@@ -93,8 +80,7 @@ pub extern "C" fn charopleth_choose(
 }
 
 // The rows of all zones to the front of a lent room; the count of rows.
-#[unsafe(no_mangle)]
-pub extern "C" fn charopleth_zones(n: u32, jobs: &[u32; 40], room: &mut [u8]) -> u64
+pub fn charopleth_zones(n: u32, jobs: &[u32; 40], room: &mut [u8]) -> u64
     ensures { CountsForC (λ a. Listed (profile_in n jobs.now) room.old a room.new) result }
 {
     let c = zones::list_zones(exchange::profile(n, jobs), room);
@@ -102,8 +88,7 @@ pub extern "C" fn charopleth_zones(n: u32, jobs: &[u32; 40], room: &mut [u8]) ->
 }
 
 // The rows of the budget table to the front of a lent room; the count of rows.
-#[unsafe(no_mangle)]
-pub extern "C" fn charopleth_table(n: u32, jobs: &[u32; 40], room: &mut [u8]) -> u64
+pub fn charopleth_table(n: u32, jobs: &[u32; 40], room: &mut [u8]) -> u64
     ensures { CountsForC (λ a. Built (profile_in n jobs.now) room.old a room.new) result }
 {
     let c = table::build_table(exchange::profile(n, jobs), room);
@@ -111,8 +96,7 @@ pub extern "C" fn charopleth_table(n: u32, jobs: &[u32; 40], room: &mut [u8]) ->
 }
 
 // The number, counted from 1, of the row of a lent table that answers a budget.
-#[unsafe(no_mangle)]
-pub extern "C" fn charopleth_lookup(n: u32, jobs: &[u32; 40], table: &[u8], budget: u32) -> u64
+pub fn charopleth_lookup(n: u32, jobs: &[u32; 40], table: &[u8], budget: u32) -> u64
     ensures { CountsForC (Locates (profile_in n jobs.now) table.now (pages_per_hour budget)) result }
 {
     let c = table_lookup::locate(exchange::profile(n, jobs), table, PagesPerHour(budget));

@@ -3,12 +3,14 @@
 // What is judged, and in which order, is said in specs/Model.antt of model. Nothing is assumed, and no function has a
 // `requires`.
 #![tactic(auto)]
+
 ghost use Rattle.std.specs.Prelude.{◌≡◌};
 ghost use Rattle.model.specs.Model.{bad_interval, bad_stiffness, judge_interval_and_stiffness, judge_job, verdict_of};
 
 use model::{Job, Profile, Verdict};
 
 // The verdict on a profile given as values: 3, else 5, 6 or 8 for the first bad job.
+#[tactic(auto, using(model::proofs::Verdicts::one_judged, model::proofs::Verdicts::all_judged, model::proofs::Verdicts::sound_passes, model::proofs::Verdicts::unsound_stays), unfolding(model::specs::Model::verdict_of, model::specs::Model::refuse_if))]
 pub fn judge(p: Profile) -> Verdict
     ensures { result ≡ verdict_of p }
 {
@@ -32,6 +34,7 @@ pub fn judge(p: Profile) -> Verdict
 }
 
 // 5, 6 and 8 for the job numbered k.
+#[tactic(auto, using(model::proofs::Verdicts::sound_passes, model::proofs::Verdicts::unsound_stays), unfolding(model::specs::Model::judge_job, model::specs::Model::refuse_if))]
 fn judge_job(j: Job, k: u32) -> Verdict
     ensures { result ≡ judge_job j k }
 {
@@ -49,6 +52,7 @@ fn judge_job(j: Job, k: u32) -> Verdict
 }
 
 // 5 and 6 for a job, whose number k, from 1, is the refusal's detail: what values and bytes are judged by alike.
+#[tactic(auto, unfolding(model::specs::Model::judge_interval_and_stiffness, model::specs::Model::refuse_if))]
 pub fn judge_interval_and_stiffness(j: Job, k: u32) -> Verdict
     ensures { result ≡ judge_interval_and_stiffness j k }
 {

@@ -2,6 +2,7 @@
 //
 // Which they are is said in specs/Model.antt of model. Nothing is assumed, and no function has a `requires`.
 #![tactic(auto)]
+
 ghost use Rattle.std.specs.Prelude.{◌≡◌};
 ghost use Rattle.model.specs.Model.{number_of, detail_of};
 

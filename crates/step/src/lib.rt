@@ -4,6 +4,7 @@
 // specs/Step.antt says what is reckoned, and proofs/ that so carried along it is the model's need, counted moment by moment, and
 // its loss. These functions serve other crates of the planner, and their callers meet what they require. Nothing is assumed.
 #![tactic(auto)]
+
 ghost use Rattle.std.specs.Prelude.{◌≡◌, ◌≤◌, max};
 ghost use Rattle.model.specs.Model.{cost, per_hour, rounded_up, rate, job_loss};
 ghost use Rattle.model.specs.Most.{most_pages, most_need};
@@ -13,6 +14,7 @@ ghost use Rattle.step.specs.Step.{load, LoadsTo, carried, NeedFits, hourly, loss
 use model::{ExactNeed, Job, PagesPerHour, Profile, Remainder, Seconds};
 
 // The pages of a run of each job, as need counts them: from the first job on, since a job's count depends on those before it.
+#[tactic(auto, using(model::proofs::Validity::job_valid_at), unfolding(crate::specs::Step::greatest_before))]
 pub fn loads_of(p: Profile) -> [u32; 8]
     requires { Valid p }
     ensures { LoadsTo p p.n result }
@@ -32,6 +34,7 @@ pub fn loads_of(p: Profile) -> [u32; 8]
 
 // The pages of a run, as need counts them: its data, and what its metadata exceeds the `greatest` of the jobs before it by. So
 // much does the one commit grow.
+#[tactic(auto, unfolding(crate::specs::Step::load))]
 fn need_pages(j: Job, greatest: u32) -> u32
     requires { ValidJob j }
     ensures { result ≡ load greatest j }
@@ -50,6 +53,7 @@ fn greater(a: u32, b: u32) -> u32
 }
 
 // The pages of a run, as loss counts them.
+#[tactic(auto, unfolding(model::specs::Model::cost))]
 pub fn loss_pages(j: Job) -> u32
     requires { ValidJob j }
     ensures { result ≡ cost j }
@@ -81,6 +85,7 @@ pub fn exact_need(written: u64, t: Seconds) -> ExactNeed
 
 // A need rounded up to whole pages. This is called where a need meets a budget, settles a tie, becomes a start or the detail of 10,
 // or is held against a start, and nowhere else.
+#[tactic(auto, unfolding(model::specs::Model::rounded_up))]
 pub fn rounded_up(need: ExactNeed) -> PagesPerHour
     requires { need.whole.0 ≤ most_need }
     ensures { result ≡ rounded_up need }
@@ -100,6 +105,7 @@ pub fn hourly_rate(pages: u32, t: Seconds) -> PagesPerHour
 }
 
 // A job's rate at its shortest period.
+#[tactic(auto, using(model::proofs::Bounds::cost_bound), unfolding(model::specs::Model::rate))]
 pub fn fastest_rate(j: Job) -> PagesPerHour
     requires { ValidJob j }
     ensures { result ≡ rate j j.lo }
@@ -108,6 +114,7 @@ pub fn fastest_rate(j: Job) -> PagesPerHour
 }
 
 // What a job loses at a period, against its rate at the shortest.
+#[tactic(auto, using(crate::proofs::Fits::loss_by_numbers))]
 pub fn loss_with(j: Job, fastest: PagesPerHour, t: Seconds) -> u64
     requires { ValidJob j × (j.lo.0 ≤ t.0) × (fastest ≡ rate j j.lo) }
     ensures { result ≡ job_loss j t }
@@ -116,6 +123,7 @@ pub fn loss_with(j: Job, fastest: PagesPerHour, t: Seconds) -> u64
 }
 
 // The same where the job's numbers are at hand.
+#[tactic(auto, using(crate::proofs::Fits::loss_is))]
 pub fn job_loss(stiffness: u32, fastest: PagesPerHour, pages: u32, t: Seconds) -> u64
     requires { LossFits stiffness fastest pages t }
     ensures { result ≡ loss_at stiffness fastest pages t }

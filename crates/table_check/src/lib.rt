@@ -3,6 +3,7 @@
 // specs/Formed.antt says when a row is good, specs/Checks.antt what is answered; a table's rows stand in crate table_row. The
 // function serves other crates of the planner, and its callers meet what it requires. Nothing is assumed.
 #![tactic(auto)]
+
 ghost use Rattle.model.specs.Valid.{Valid};
 ghost use Rattle.table_check.specs.Checks.{Checked};
 

@@ -3,6 +3,7 @@
 // specs/Next.antt says what the next answers are, specs/Steps.antt what the private functions ask and promise. They serve
 // other crates of the planner, and their callers meet what is required. Nothing is assumed.
 #![tactic(auto)]
+
 ghost use Rattle.std.specs.Prelude.{◌≡◌, length};
 ghost use Rattle.model.specs.Valid.{Valid};
 ghost use Rattle.walk.specs.Steps.{Ready};

@@ -3,6 +3,7 @@
 // specs/Rows.antt of table_stairs says what is promised of the rows. These functions serve other crates of the planner, and
 // their callers meet what is required. Nothing is assumed.
 #![tactic(auto)]
+
 ghost use Rattle.std.specs.Prelude.{◌≡◌, false, ◌≤◌, ◌<◌, get_or};
 ghost use Rattle.step.specs.Step.{NeedFits};
 ghost use Rattle.walk.specs.Steps.{ReadyForCut};

@@ -3,6 +3,7 @@ pub mod Finding
 pub mod HandedBack
 pub mod InOrder
 pub mod Laid
+mod LastWithin
 pub mod LookedUp
 pub mod OneOutcome
 pub mod OnlyTable

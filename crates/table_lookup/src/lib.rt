@@ -4,6 +4,7 @@
 // table_check. specs/AsChosen.antt serves theorems; no contract cites it.
 // Nothing is assumed, and no public function has a `requires`.
 #![tactic(auto)]
+
 ghost use Rattle.std.specs.Prelude.{ℕ};
 ghost use Rattle.table_lookup.specs.Lookup.{Answers, Locates, JudgesLookup, LooksUp};
 

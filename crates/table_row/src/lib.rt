@@ -5,6 +5,7 @@
 // reader and writer of table rows goes through this crate. These functions serve other crates of the planner, and their
 // callers meet what they require. Nothing is assumed.
 #![tactic(auto)]
+
 ghost use Rattle.std.specs.Prelude.{◌≡◌, map, ◌<◌};
 ghost use Rattle.codec.specs.RowWords.{with_row};
 ghost use Rattle.model.specs.Model.{seconds, pages_per_hour};
@@ -25,6 +26,7 @@ pub struct TableRow {
 }
 
 // The k-th row of a table, counted from 0.
+#[tactic(auto, using(crate::proofs::Cutting::fields_of_words))]
 pub fn row_at(table: &[u8], k: usize) -> TableRow
     requires { k < rows_in table.now }
     ensures { result ≡ row_at table.now k }
@@ -34,6 +36,7 @@ pub fn row_at(table: &[u8], k: usize) -> TableRow
 }
 
 // The start of the k-th row of a table, counted from 0.
+#[tactic(auto, using(crate::proofs::Cutting::start_of_words))]
 pub fn start_at(table: &[u8], k: usize) -> PagesPerHour
     requires { k < rows_in table.now }
     ensures { result ≡ start_at table.now k }
@@ -43,6 +46,7 @@ pub fn start_at(table: &[u8], k: usize) -> PagesPerHour
 }
 
 // Makes the k-th row of a table, counted from 0, the one that two words hold; where there is no such row, nothing changes.
+#[tactic(auto, using(crate::proofs::Words::row_of_cut))]
 pub fn put_row(table: &mut [u8], k: usize, high: u64, low: u64)
     ensures { table.new ≡ with_row table.old k (table_row (pages_per_hour (word_start high)) (map seconds (word_periods high low))) }
 {
@@ -50,6 +54,7 @@ pub fn put_row(table: &mut [u8], k: usize, high: u64, low: u64)
 }
 
 // A start and eight periods as two words: the third period has eight bits in the first word and four in the second.
+#[tactic(auto, using(crate::proofs::Words::words_added))]
 pub fn row_words(start: PagesPerHour, periods: &[u32; 8]) -> RowWords
     requires { Fields periods.now }
     ensures { result ≡ words_of start.0 periods.now }
@@ -74,6 +79,7 @@ pub fn start_of(high: u64) -> PagesPerHour
 }
 
 // The start and the eight periods in a row's two words.
+#[tactic(auto, using(crate::proofs::Cutting::cut_words))]
 pub fn cut_row(high: u64, low: u64) -> TableRow
     ensures { result ≡ row_of (word_fields high low) }
 {
@@ -108,6 +114,7 @@ pub fn cut_row(high: u64, low: u64) -> TableRow
 }
 
 // Whether a row may follow the one before it: the first follows none.
+#[tactic(auto, unfolding(crate::specs::Cut::follows))]
 pub fn may_follow(
     k: usize,
     start_before: PagesPerHour,

@@ -3,6 +3,7 @@
 // specs/Stairs.antt says what is kept, specs/Rows.antt how that stands in an array, and what `table_enter` promises of it. These
 // functions serve other crates of the planner, and their callers meet what is required. Nothing is assumed.
 #![tactic(auto)]
+
 ghost use Rattle.std.specs.Prelude.{◌≡◌, ◌≤◌, ◌<◌, min, length};
 ghost use Rattle.table_stairs.specs.Stairs.{no_bound};
 ghost use Rattle.table_stairs.specs.Rows.{Periods, Rises, LosesLess, PlacesRise, PlacesLoseLess, Covers, NeedsLess, Moved, Stored};

@@ -4,6 +4,7 @@
 // keeps as it goes. specs/Arrays.antt says how a profile's numbers are lent, and specs/Steps.antt what these functions ask and
 // promise; they serve other crates of the planner, and their callers meet what they require. Nothing is assumed.
 #![tactic(auto)]
+
 ghost use Rattle.std.specs.Prelude.{◌≡◌, true, false, ◌+◌, ◌*◌, ◌/◌, ◌≤◌, ◌<◌, max, get_or};
 ghost use Rattle.model.specs.Model.{pages_per_hour};
 ghost use Rattle.model.specs.Most.{most_need, most_loss};
@@ -34,6 +35,7 @@ pub fn to_try(spans: &[u32; 16], i: usize, step: Seconds) -> Tries
 }
 
 // The loss so far with that of job i at period t.
+#[tactic(auto, using(step::proofs::Fits::loss_at_to))]
 pub fn lost_with(
     pages: &[u32; 16],
     rates: &[u32; 17],
@@ -51,6 +53,7 @@ pub fn lost_with(
 }
 
 // The least need of plans that write so many pages in t seconds, with jobs from place i on still to come.
+#[tactic(auto, unfolding(step::specs::Step::need_at))]
 pub fn need_floor(rates: &[u32; 17], i: usize, t: Seconds, written: u64) -> PagesPerHour
     requires i_bound { i ≤ 8 }
     requires need_fits { NeedFits written t }

@@ -3,6 +3,7 @@
 // specs/Arrays.antt of walk says which they are. These functions serve other crates of the planner, and their callers meet what
 // they require. Nothing is assumed.
 #![tactic(auto)]
+
 ghost use Rattle.model.specs.Valid.{Valid};
 ghost use Rattle.walk.specs.Arrays.{SpansFrom, PagesFrom, RatesFrom, StiffnessesFrom};
 

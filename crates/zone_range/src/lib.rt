@@ -2,6 +2,7 @@
 //
 // The functions serve the walk over the zones, which meets what they require. Nothing is assumed.
 #![tactic(auto)]
+
 ghost use Rattle.std.specs.Prelude.{◌≡◌, ◌*◌, ◌/◌, ◌^◌, ◌≤◌, min, max, ltb};
 ghost use Rattle.model.specs.Rounding.{round_up};
 

@@ -1,0 +1,13 @@
+-- `planner::charopleth_write` meets its contract: the writing of the profile that the numbers hold, handed on.
+-- Assumes nothing.
+use Rattle.model.specs.declared.Profile.{Profile}
+use Rattle.model.specs.declared.Counted.{Counted}
+use Rattle.profile_write.specs.Writing.{Writes}
+use Rattle.planner.proofs.Left.{count_told}
+use Rattle.planner.proofs.charopleth_write.Goals as goal
+
+pub returns : goal.returns
+returns c =
+    let room = c.args.room.now in
+    let Allows : Profile → Counted → Type 0 = λ p a. Writes p room a c.write_profile-c.new.out in
+    count_told Allows c.profile.ensures c.write_profile-c.ensures c.counted.ensures

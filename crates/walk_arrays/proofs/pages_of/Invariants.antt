@@ -1,0 +1,11 @@
+-- `walk_arrays::pages_of` meets its contract: before each turn the jobs from place k on are in.
+-- Assumes nothing.
+use Prim.Native.Nat.{◌≤◌}
+use Rattle.walk.specs.Arrays.{PagesFrom}
+use Rattle.walk_arrays.proofs.pages_of.Given as goal
+
+abbrev pub invariant-loop-k : goal.invariant-loop-k
+invariant-loop-k l = (l.k ≤ l.p.n) × PagesFrom l.p l.k l.pages
+
+abbrev pub decreases-loop-k : goal.decreases-loop-k
+decreases-loop-k l = l.k

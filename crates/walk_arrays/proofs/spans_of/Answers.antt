@@ -1,0 +1,12 @@
+-- `walk_arrays::spans_of` meets its contract: before each turn the jobs from place k on are in.
+-- Assumes nothing.
+use mathlib.Core.Path.{refl}
+use Rattle.walk.proofs.Filled.{one_filled}
+use native.Mathlib.Omega.{arith}
+use Rattle.walk_arrays.proofs.spans_of.Goals as goal
+
+pub loop-k-preserved : goal.loop-k-preserved
+loop-k-preserved c =
+    let l = c.loop-k in
+    let pos = c.loop-k-test.true in
+    (omega arith, one_filled c.requires l.k pos l.invariant.0 (omega arith) refl refl l.invariant.1)
