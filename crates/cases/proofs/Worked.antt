@@ -48,6 +48,7 @@ same_tail e = cc
 same_at : {A : Type 0} (f : A → A) (xs : List A) {x : A} → map f xs ≡ xs → Memᴰ x xs → f x ≡ x
 same_at f (y ∷ xs) e (Memᴰ.head h) = ap f h ∙ same_head e ∙ sym h
 same_at f (y ∷ xs) e (Memᴰ.tail m) = same_at f xs (same_tail e) m
+same_at f [] e m = elim m [ ]
 
 -- Such a list is right.
 pub all_right : (cs : List Case) → Computed cs → (c : Case) → Memᴰ c cs → Right c

@@ -3,6 +3,7 @@
 // specs/Choice.antt says what may be answered; specs/Steps.antt serves the private functions alone.
 // Nothing is assumed, and no public function has a `requires`.
 #![tactic(auto)]
+
 ghost use Rattle.std.specs.Prelude.{◌≡◌};
 ghost use Rattle.model.specs.Model.{jobs_of};
 ghost use Rattle.model.specs.Valid.{Valid};

@@ -1,6 +1,6 @@
 -- The plan that ten numbers stand for, and how another one takes its place.
 -- Assumes nothing.
-use mathlib.Core.Path.{◌≡◌, sym, ◌∙◌, ap, ap₂, subst}
+use mathlib.Core.Path.{◌≡◌, refl, sym, ◌∙◌, ap, ap₂, subst}
 use mathlib.Core.List.{List, [], ◌∷◌, ◌++◌, map}
 use Prim.Native.Nat.{ℕ, ◌+◌, ◌≤◌, ◌<◌}
 use native.Mathlib.Omega.{arith}
@@ -14,6 +14,7 @@ use Rattle.model.specs.declared.PagesPerHour.{PagesPerHour}
 use Rattle.model.specs.Model.{seconds, pages_per_hour}
 use Rattle.choose_offer.specs.Found.{Found, nothing, found, pick}
 use Rattle.step.specs.Step.{need_at}
+use Rattle.step.proofs.Fits.{whole_under}
 use Rattle.walk.specs.Steps.{periods_in}
 use Rattle.choose_offer.specs.Steps.{no_plan, found_in, Sizes, BestIs, Offers}
 use Rattle.choose_offer.proofs.Updates.{pick_over, pick_first, pick_less_loss, pick_less_need, pick_more_loss, pick_no_less}
@@ -98,3 +99,14 @@ module _ {n : ℕ} {b : PagesPerHour} {t : Seconds} {written lost : ℕ} {ps bes
     pub offer_less_need : lost ≡ get_or best 9 0 → need_at written t < get_or best 8 0 → Offers n b t written lost ps best best'
     offer_less_need same less =
         taken (rw (plan_found n best (λ e. omega arith)) (sym (pick_less_need b.0 (need_at written t) lost (periods_in n ps) (get_or best 8 0) (get_or best 9 0) (periods_in n best) fits same less)))
+
+  -- the same, where what stands in best is told number by number
+  module _ {best' : List ℕ} (fits : need_at written t ≤ b.0) (size : length best' ≡ 10) (periods : take n best' ≡ take n ps) (need : get_or best' 8 0 ≡ need_at written t) (loss : get_or best' 9 0 ≡ lost) where
+    pub kept_less_loss : lost < get_or best 9 0 → Offers n b t written lost ps best best'
+    kept_less_loss = offer_less_loss fits {q = pages_per_hour (need_at written t)} refl (record { size = size; periods = periods; its_need = need; its_loss = loss })
+
+    pub kept_less_need : lost ≡ get_or best 9 0 → need_at written t < get_or best 8 0 → Offers n b t written lost ps best best'
+    kept_less_need = offer_less_need fits {q = pages_per_hour (need_at written t)} refl (record { size = size; periods = periods; its_need = need; its_loss = loss })
+
+-- how an offer ends, case by case; whole pages are no more than the need
+pub ruleset offer_cases = (whole_under, offer_over, offer_more_loss, offer_no_less, kept_less_loss, kept_less_need)

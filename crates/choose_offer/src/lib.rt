@@ -3,6 +3,7 @@
 // specs/Found.antt says what is kept, specs/Steps.antt what these functions ask and promise. They serve other crates of the
 // planner, and their callers meet what is required. Nothing is assumed.
 #![tactic(auto)]
+
 ghost use Rattle.std.specs.Prelude.{◌≡◌, false, ◌<◌};
 ghost use Rattle.step.specs.Step.{NeedFits};
 ghost use Rattle.walk.specs.Steps.{ReadyForCut};
@@ -48,6 +49,7 @@ pub fn may_win(
 }
 
 // One whole plan: kept if it fits the budget and has less loss than the best, or the same loss and less need.
+#[tactic(auto, using(crate::proofs::Stored::offer_cases), unfolding(step::specs::Step::need_at))]
 pub fn offer(
     n: usize,
     budget: PagesPerHour,

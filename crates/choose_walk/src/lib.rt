@@ -4,6 +4,7 @@
 // that the first ends with the best. They serve other crates of the planner, and their callers meet what is required.
 // Nothing is assumed.
 #![tactic(auto)]
+
 ghost use Rattle.std.specs.Prelude.{◌≡◌, false, min};
 ghost use Rattle.walk.specs.Steps.{Ready, ReadyForCut};
 ghost use Rattle.choose_offer.specs.Steps.{Sizes};

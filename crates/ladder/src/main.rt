@@ -2,18 +2,22 @@
 // refusal. What each line holds is proved in the library `ladder_listing`; here is the loop that writes the lines, and no more. A
 // read that fails ends the input, and a write that fails ends the program.
 #![tactic(auto)]
-use libc::{STDIN_FILENO, STDOUT_FILENO};
+
+// The numbers under which every process has its input and its output.
+const STDIN: i32 = 0;
+
+const STDOUT: i32 = 1;
 
 // 66 bytes settle what is printed: a longer input is refused as its first 66 bytes are.
 fn main() {
     let mut input = [0u8; 66];
-    let got = io::read_full(STDIN_FILENO, &mut input);
+    let got = io::read_full(STDIN, &mut input);
     let mut table = [0u8; 65536];
     let l = ladder_listing::prepare(&input[..got], &mut table);
     let mut text = [0u8; 80];
     for k in 0..=l.rows {
         let size = ladder_listing::line(l, &table, k, &mut text);
-        if !io::write_all(STDOUT_FILENO, &text[..size]) {
+        if !io::write_all(STDOUT, &text[..size]) {
             return;
         }
     }

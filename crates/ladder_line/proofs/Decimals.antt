@@ -81,7 +81,7 @@ digits_most (suc most) n = go (ltb n 10) (digits_most most (n / 10))
     go true fewer = omega arith
     go false fewer = omega (arith, length-append (digits_of most (n / 10)) ((48 + n % 10) ∷ []))
 
-spaced_most : (n : ℕ) → length (spaced n) ≤ 21
+pub spaced_most : (n : ℕ) → length (spaced n) ≤ 21
 unfolding spaced decimal
 spaced_most n = omega (arith, digits_most 20 n)
 

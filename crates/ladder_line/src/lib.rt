@@ -3,6 +3,7 @@
 // specs/Lines.antt says which bytes a line has, and specs/Writing.antt what putting them does to a text. The functions serve
 // `listing`, and their callers meet what they require. Nothing is assumed.
 #![tactic(auto)]
+
 ghost use Rattle.std.specs.Prelude.{◌+◌, ◌*◌, ◌≤◌, length};
 ghost use Rattle.model.specs.Model.{seconds, entries};
 ghost use Rattle.ladder_line.specs.Lines.{decimal, spaced, spaced_periods, refusal_line, header_line, row_line};
@@ -11,6 +12,7 @@ ghost use Rattle.ladder_line.specs.Writing.{Puts, Printable};
 use model::{PagesPerHour, Seconds, Verdict};
 
 // `refused NUMBER DETAIL`
+#[tactic(auto, using(crate::proofs::Decimals::spaced_most))]
 pub fn refusal_line(v: Verdict, text: &mut [u8; 80]) -> usize
     ensures { Puts text.old 0 (refusal_line v) result text.new }
 {
@@ -23,6 +25,7 @@ pub fn refusal_line(v: Verdict, text: &mut [u8; 80]) -> usize
 }
 
 // `jobs N rows R`
+#[tactic(auto, using(crate::proofs::Decimals::spaced_most))]
 pub fn header_line(n: u32, rows: u64, text: &mut [u8; 80]) -> usize
     ensures { Puts text.old 0 (header_line n rows) result text.new }
 {
@@ -66,6 +69,7 @@ fn put_periods(text: &mut [u8; 80], at: usize, periods: [Seconds; 8], n: usize) 
 }
 
 // A space and a number in decimal.
+#[tactic(auto, unfolding(crate::specs::Lines::spaced))]
 fn put_spaced(text: &mut [u8; 80], at: usize, n: u64) -> usize
     requires { at + length (spaced n) ≤ 80 }
     ensures { Puts text.old at (spaced n) result text.new }

@@ -3,6 +3,7 @@
 // specs/Listing.antt says which line comes when and what the two operations answer; specs/Text.antt says what the whole
 // text means, and proofs/ that the lines are that text. Nothing is assumed, and no public function has a `requires`.
 #![tactic(auto)]
+
 ghost use Rattle.io.specs.Counts.{IsPrefixLen};
 ghost use Rattle.ladder_line.specs.Writing.{Puts};
 ghost use Rattle.ladder_listing.specs.Listing.{line_of_row, Prepares, Prints};

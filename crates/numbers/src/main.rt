@@ -1,10 +1,13 @@
 // Runs the numbers of document 01, with the need of tickets 3 and 4, and a bad input for each refusal, and prints what comes out.
 // The file stdout beside src/ is what must come out.
 #![tactic(auto)]
+
 ghost use Rattle.std.specs.Prelude.{◌≡◌, ◌<◌, length};
 
-use libc::STDOUT_FILENO;
 use planner::{Counted, Job, PagesPerHour, Profile, Seconds, Verdict};
+
+// The number under which every process has its output.
+const STDOUT: i32 = 1;
 
 fn main() {
     both_ways();
@@ -267,7 +270,7 @@ fn show_choice(p: Profile, budget: u32) {
     show(v);
     field(c.need.whole.0);
     field(c.need.remainder.0);
-    io::print_decimal(STDOUT_FILENO, c.loss);
+    io::print_decimal(STDOUT, c.loss);
     let ts = c.periods;
     show_periods(ts);
     say(b"\n");
@@ -283,7 +286,7 @@ fn show_periods(ts: [Seconds; 8]) {
 
 fn show_period(t: Seconds) {
     say(b" ");
-    io::print_decimal(STDOUT_FILENO, t.0 as u64);
+    io::print_decimal(STDOUT, t.0 as u64);
 }
 
 // A profile's bytes, in a lent room.
@@ -363,7 +366,7 @@ fn show_bytes(bytes: &[u8]) {
 }
 
 fn show_byte(b: u8) {
-    io::print_hex(STDOUT_FILENO, b as u64, 2);
+    io::print_hex(STDOUT, b as u64, 2);
 }
 
 fn show(v: Verdict) {
@@ -377,15 +380,15 @@ fn show(v: Verdict) {
 }
 
 fn field(x: u32) {
-    io::print_decimal(STDOUT_FILENO, x as u64);
+    io::print_decimal(STDOUT, x as u64);
     say(b" ");
 }
 
 fn number(x: u64) {
-    io::print_decimal(STDOUT_FILENO, x);
+    io::print_decimal(STDOUT, x);
     say(b"\n");
 }
 
 fn say(text: &[u8]) {
-    io::write_all(STDOUT_FILENO, text);
+    io::write_all(STDOUT, text);
 }

@@ -3,6 +3,7 @@
 // specs/Reading.antt says what bytes stand for and what reading may answer; specs/Fields.antt serves the private functions
 // alone. Nothing is assumed, and no public function has a `requires`.
 #![tactic(auto)]
+
 ghost use Rattle.std.specs.Prelude.{◌≡◌, ◌+◌, ◌≤◌, ◌<◌, length, drop};
 ghost use Rattle.model.specs.Model.{no_job, first_refused};
 ghost use Rattle.codec.specs.Packing.{unpack};
@@ -27,6 +28,7 @@ struct Record {
 }
 
 // The values that bytes stand for, or why they are refused: 1 to 4 for the whole, else 5, 6 or 7 for the first bad job.
+#[tactic(auto, using(crate::proofs::Headers::sound_header, model::proofs::Verdicts::sound_of_zero), unfolding(crate::specs::Reading::verdict_of_bytes, model::specs::Model::or_else, model::specs::Model::refuse_if, model::specs::Model::if_sound))]
 pub fn read_profile(bytes: &[u8]) -> Reading
     ensures { Reads bytes.now result }
 {
@@ -52,6 +54,7 @@ pub fn read_profile(bytes: &[u8]) -> Reading
 }
 
 // 1, 2, 3, 4: the bytes as a whole.
+#[tactic(auto, using(crate::proofs::Records::edition_is), unfolding(crate::specs::Reading::judge_header, model::specs::Model::refuse_if))]
 fn judge_header(bytes: &[u8]) -> Verdict
     ensures { result ≡ judge_header bytes.now }
 {
@@ -75,6 +78,7 @@ fn judge_header(bytes: &[u8]) -> Verdict
 }
 
 // n, which the first byte holds below the edition.
+#[tactic(auto, using(crate::proofs::Records::count_is))]
 fn job_count(bytes: &[u8]) -> usize
     requires { 1 ≤ length bytes.now }
     ensures { (result ≡ count_of bytes.now) × (result < 16) }
@@ -83,6 +87,7 @@ fn job_count(bytes: &[u8]) -> usize
 }
 
 // The first refusal among n records.
+#[tactic(auto, using(crate::proofs::Records::one_judged, crate::proofs::Records::all_judged, model::proofs::Verdicts::sound_of_zero), unfolding(model::specs::Model::or_else, model::specs::Model::refuse_if))]
 fn judge_records(bytes: &[u8], n: usize) -> Verdict
     requires { (n ≤ 8) × (profile_length n ≤ length bytes.now) }
     ensures { result ≡ first_refused judge_record 0 (records_in n (drop 1 bytes.now)) }
@@ -99,6 +104,7 @@ fn judge_records(bytes: &[u8], n: usize) -> Verdict
 }
 
 // 5, 6 and 7 for the record numbered k.
+#[tactic(auto, using(model::proofs::Verdicts::sound_of_zero), unfolding(model::specs::Model::or_else, model::specs::Model::refuse_if))]
 fn judge_record(r: Record, k: u32) -> Verdict
     ensures { result ≡ judge_cut r k }
 {
@@ -114,6 +120,7 @@ fn judge_record(r: Record, k: u32) -> Verdict
 }
 
 // The values of n records, with zeros beyond them.
+#[tactic(auto, using(crate::proofs::Records::job_read, crate::proofs::Records::eight_read), unfolding(crate::specs::Reading::records_in))]
 fn values(bytes: &[u8], n: usize) -> Profile
     requires { (n ≤ 8) × (profile_length n ≤ length bytes.now) }
     ensures { result ≡ profile_of bytes.now n }
@@ -152,6 +159,7 @@ fn no_job() -> Job
 }
 
 // The record of the job at place k, counted from 0.
+#[tactic(auto, unfolding(codec::specs::Packing::recut))]
 fn record_at(bytes: &[u8], k: usize) -> Record
     requires { profile_length k + 8 ≤ length bytes.now }
     ensures { result ≡ record_of (fields_at bytes.now k) }

@@ -3,6 +3,7 @@
 // specs/Writing.antt says what writing may answer and leave in a lent buffer. Nothing is assumed, and no public function
 // has a `requires`. proofs/RoundTrip.antt says that what was written reads back, and what was read is written back.
 #![tactic(auto)]
+
 ghost use Rattle.std.specs.Prelude.{◌≡◌, ◌++◌, ◌≤◌, length, drop};
 ghost use Rattle.model.specs.Valid.{Valid, ValidJob};
 ghost use Rattle.codec.specs.Packing.{pack};
@@ -12,6 +13,7 @@ ghost use Rattle.profile_write.specs.Writing.{Writes};
 use model::{Counted, Job, Profile, Verdict};
 
 // Writes a profile's bytes to the front of `out`, or refuses: the profile's own refusal, then 11 with the bytes needed.
+#[tactic(auto, using(model::proofs::Verdicts::sound_of_zero, crate::proofs::Records::length_profile_bytes), unfolding(model::specs::Model::or_else, model::specs::Model::refuse_if, model::specs::Model::if_sound))]
 pub fn write_profile(p: Profile, out: &mut [u8]) -> Counted
     ensures { Writes p out.old result out.new }
 {
@@ -37,6 +39,7 @@ pub fn write_profile(p: Profile, out: &mut [u8]) -> Counted
 }
 
 // A valid profile's bytes to the front of `out`, which has room for them.
+#[tactic(auto, using(model::proofs::Validity::job_valid_at, crate::proofs::Records::nothing_filled, crate::proofs::Records::one_filled, crate::proofs::Records::all_filled), unfolding(model::specs::Model::entries))]
 fn fill(p: Profile, out: &mut [u8])
     requires { Valid p × (profile_length p.n ≤ length out.old) }
     ensures { out.new ≡ profile_bytes p ++ drop (profile_length p.n) out.old }

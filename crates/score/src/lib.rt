@@ -3,6 +3,7 @@
 // specs/Scoring.antt says what is answered, with the model's need and loss; crate step says what each job adds to them.
 // Nothing is assumed, and no public function has a `requires`.
 #![tactic(auto)]
+
 ghost use Rattle.model.specs.Model.{jobs_of, periods_of};
 ghost use Rattle.model.specs.Valid.{Valid};
 ghost use Rattle.score.specs.Scoring.{Scoring, Scores};
@@ -34,6 +35,7 @@ pub fn score(p: Profile, periods: [Seconds; 8]) -> Scored
 
 // 13 for the first job whose period is not permitted, else need and loss: `before` is the last of the periods so far; in that
 // time their jobs have `written` so many pages, and they have `lost` so much.
+#[tactic(auto, using(model::proofs::Validity::job_valid_at, model::proofs::Allowing::allowed, step::proofs::Bounds::load_bound, step::proofs::Along::along_fits, crate::proofs::Turns::all_reckoned))]
 fn reckon(p: Profile, periods: [Seconds; 8]) -> Scored
     requires { Valid p }
     ensures { Scoring (jobs_of p) (periods_of p periods) result }

@@ -6,6 +6,7 @@
 // The best periods for a budget are also best for every budget from their need on. So the rows are the best periods for the
 // greatest budget, then the best below their need, and so on until nothing fits; each walk collects a batch of them.
 #![tactic(auto)]
+
 ghost use Rattle.std.specs.Prelude.{◌≤◌, length};
 ghost use Rattle.model.specs.Model.{jobs_of};
 ghost use Rattle.model.specs.Valid.{Valid};

@@ -3,6 +3,7 @@
 // specs/Batch.antt says where the rows go. These functions serve other crates of the planner, and their callers meet what
 // they require. Nothing is assumed.
 #![tactic(auto)]
+
 ghost use Rattle.std.specs.Prelude.{◌≡◌, ◌-◌, ◌≤◌, ◌<◌};
 ghost use Rattle.table_stairs.specs.Rows.{need_in};
 ghost use Rattle.table_batch.specs.Batch.{with_batch};

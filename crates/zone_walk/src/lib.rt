@@ -8,6 +8,7 @@
 // specs/Listing.antt says what the walk holds and which zones are still to come. The public functions serve other crates
 // of the planner, and their callers meet what they require. Nothing is assumed.
 #![tactic(auto)]
+
 ghost use Rattle.std.specs.Prelude.{◌≡◌, ◌≤◌, length};
 ghost use Rattle.zone_walk.specs.Listing.{IntervalsOf, Spans, spans_from, zones_in, zone_walk, after, to_open, to_try, Sized, Opens, TriesMultiplier, WentOn};
 

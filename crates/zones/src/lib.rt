@@ -3,6 +3,7 @@
 // specs/Zones.antt says what a zone is, which bytes its row has and what listing answers; specs/ZoneRows.antt serves the
 // private functions alone. Nothing is assumed, and no public function has a `requires`.
 #![tactic(auto)]
+
 ghost use Rattle.std.specs.Prelude.{◌≡◌, ◌^◌, ◌<◌, length};
 ghost use Rattle.zones.specs.Zones.{Listed};
 ghost use Rattle.zone_walk.specs.Listing.{Spans, spans_from, zones_in};
