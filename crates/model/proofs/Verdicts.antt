@@ -1,7 +1,7 @@
 -- Laws of verdicts: which of two comes first, and what the `else` of `let Verdict::Sound = v else` knows of v.
 -- Assumes nothing.
 use mathlib.Core.Path.{◌≡◌, refl, sym, ap, subst}
-use mathlib.Core.List.{List, [], ◌∷◌}
+use mathlib.Core.List.{List}
 use mathlib.Core.Bool.{Bool, true, false, ◌||◌, true≢false}
 use lib.Dec.{T, eqb, ltb}
 use borrow.Author.Tests.{eqb-true, eqb-false, ne_eqb}

@@ -1,12 +1,9 @@
 -- `table::build_table` meets its contract: the profile's verdict, then that on the count of its rows; only what passes both is written.
 -- Assumes nothing.
 use mathlib.Core.Path.{◌≡◌, sym, ◌∙◌}
-use Prim.Native.Nat.{◌<◌}
 use native.Mathlib.Omega.{arith}
-use borrow.Author.Tests.{lt-ltb, ne_eqb}
-use Rattle.model.specs.declared.Verdict.{Verdict}
 use Rattle.model.specs.declared.Verdict.TheVariants.{Sound}
-use Rattle.model.specs.Model.{number_of, refuse_if, or_else, jobs_of, verdict_of}
+use Rattle.model.specs.Model.{jobs_of, verdict_of}
 use Rattle.model.proofs.Validity.{sound_valid}
 use Rattle.model.proofs.Verdicts.{refuses, refused_stays}
 use Rattle.model.proofs.FrontPut.{none_put, room_enough, count_refused}

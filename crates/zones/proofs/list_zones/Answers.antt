@@ -1,15 +1,10 @@
 -- `zones::list_zones` meets its contract: the profile's verdict, then that on the count of its zones; only what passes both is written.
 -- Assumes nothing.
-use mathlib.Core.Path.{◌≡◌, refl, sym, ◌∙◌, ap, subst}
+use mathlib.Core.Path.{refl, sym, ◌∙◌, ap, subst}
 use mathlib.Core.List.{List, ◌++◌}
 use Prim.Native.Nat.{ℕ, ◌*◌, ◌/◌, ◌≤◌}
-use native.Mathlib.Omega.{arith}
-use lib.Dec.{T}
 use lib.ListN.{length, drop}
-use borrow.Author.Tests.{lt-ltb, ne_eqb}
-use Rattle.model.specs.declared.Verdict.{Verdict}
-use Rattle.model.specs.declared.Verdict.TheVariants.{Sound}
-use Rattle.model.specs.Model.{number_of, refuse_if, or_else, row_size}
+use Rattle.model.specs.Model.{row_size}
 use Rattle.model.proofs.Validity.{sound_valid}
 use Rattle.model.proofs.Verdicts.{refuses, refused_stays}
 use Rattle.model.proofs.FrontPut.{none_put, room_enough, count_refused, rows_put}
