@@ -43,7 +43,7 @@ def as_answer(verdict, refused, sound):
 
 
 def as_count(verdict, count):
-    return as_answer(verdict, "noCount", f"number {count}")
+    return as_answer(verdict, "no_count", f"number {count}")
 
 
 # What is asked about. Permitted lists are few, so that the checker computes every case in a moment.
@@ -168,7 +168,7 @@ def in_a_room(writes):
 def reading():
     data = profile_bytes(sound_jobs())
     verdict, jobs = unpacked(data)
-    return as_list(data), as_answer(verdict, "noValues", f"values {as_jobs(jobs)}"), verdict
+    return as_list(data), as_answer(verdict, "no_values", f"values {as_jobs(jobs)}"), verdict
 
 
 def permitting():
@@ -197,7 +197,7 @@ def scoring():
     if not verdict:
         verdict, whole, remainder, loss = scored(jobs[:n], periods)
     asked = f"{as_profile(n, jobs)} {as_list(f'seconds {t}' for t in periods)}"
-    return asked, as_answer(verdict, "noScore", f"scored {whole} {remainder} {loss}"), verdict
+    return asked, as_answer(verdict, "no_score", f"scored {whole} {remainder} {loss}"), verdict
 
 
 def choosing():
@@ -207,7 +207,7 @@ def choosing():
     if not verdict:
         verdict, (whole, remainder, loss), ts = chosen(jobs[:n], budget)
     plan = f"plan {whole} {remainder} {loss} {as_list(ts)}"
-    return f"{as_profile(n, jobs)} {budget}", as_answer(verdict, "noChoice", plan), verdict
+    return f"{as_profile(n, jobs)} {budget}", as_answer(verdict, "no_choice", plan), verdict
 
 
 def looking_up():
@@ -224,16 +224,16 @@ def looking_up():
 KINDS = {
     "reading": reading,
     "writing": lambda: in_any_room(profile_of),
-    "writingIn": lambda: in_a_room(profile_of),
+    "writing_in": lambda: in_a_room(profile_of),
     "permitting": permitting,
     "counting": counting,
     "scoring": scoring,
     "choosing": choosing,
     "listing": lambda: in_any_room(zones_of),
-    "listingIn": lambda: in_a_room(zones_of),
+    "listing_in": lambda: in_a_room(zones_of),
     "building": lambda: in_any_room(table_of),
-    "buildingIn": lambda: in_a_room(table_of),
-    "lookingUp": looking_up,
+    "building_in": lambda: in_a_room(table_of),
+    "looking_up": looking_up,
 }
 Case = collections.namedtuple("Case", "kind asked answer verdict")
 
@@ -248,7 +248,7 @@ def drawn():
 # each kind, and the two numbers of a need.
 OFF = {kind: (kind, 0, False) for kind in KINDS}
 for kind in ("scoring", "choosing"):
-    OFF |= {f"{kind}-whole": (kind, 0, True), f"{kind}-remainder": (kind, 1, True)}
+    OFF |= {f"{kind}_whole": (kind, 0, True), f"{kind}_remainder": (kind, 1, True)}
 
 
 def off_by_one(case, place):
@@ -261,14 +261,14 @@ def off_by_one(case, place):
 
 MODULE = f"""-- Cases that were drawn, with what tests/rules.py gives for them. Assumes nothing.
 use mathlib.Core.Path.{{refl}}
-use mathlib.Core.List.{{List, [], _∷_, List·Memᴰ}}
-use Rattle·model.specs.declared.Verdict.the-variants.{{{", ".join(v.strip("(){} ") for v in VERDICTS if "below" not in v)}}}
-use Rattle·model.specs.Model.{{seconds}}
-use Rattle·score.specs.Scoring.{{noScore}}
-use Rattle·choose.specs.Choice.{{noChoice}}
-use Rattle·table_lookup.specs.Lookup.{{noCount}}
-use Rattle·cases.specs.Case.{{Case, Right, {", ".join(KINDS)}, job, values, noValues, plan, scored, below, number}}
-use Rattle·cases.proofs.Worked.{{Computed, all-right}}
+use mathlib.Core.List.{{List, [], ◌∷◌, Memᴰ}}
+use Rattle.model.specs.declared.Verdict.TheVariants.{{{", ".join(v.strip("(){} ") for v in VERDICTS if "below" not in v)}}}
+use Rattle.model.specs.Model.{{seconds}}
+use Rattle.score.specs.Scoring.{{no_score}}
+use Rattle.choose.specs.Choice.{{no_choice}}
+use Rattle.table_lookup.specs.Lookup.{{no_count}}
+use Rattle.cases.specs.Case.{{Case, Right, {", ".join(KINDS)}, job, values, no_values, plan, scored, below, number}}
+use Rattle.cases.proofs.Worked.{{Computed, all_right}}
 """
 CLAIM = """
 unfoldable pub {name} : List Case
@@ -276,12 +276,12 @@ unfoldable pub {name} : List Case
     {cases}
     ∷ []
 
-{name}-computed : Computed {name}
+{name}_computed : Computed {name}
 unfolding {name} Computed
-{name}-computed = refl
+{name}_computed = refl
 
-pub {name}-right : (c : Case) → List·Memᴰ c {name} → Right c
-{name}-right = all-right {name} {name}-computed
+pub {name}_right : (c : Case) → Memᴰ c {name} → Right c
+{name}_right = all_right {name} {name}_computed
 """
 
 
@@ -290,7 +290,7 @@ def write_crate(repository, name, claims):
     crate = repository / "crates" / name
     (crate / "src").mkdir(parents=True)
     (crate / "proofs").mkdir()
-    (crate / "src/lib.rt").write_text("// Cases that were drawn. There is no code here.\n")
+    (crate / "src/lib.rt").write_text("// Cases that were drawn. There is no code here.\n#![tactic(auto)]\n")
     (crate / "proofs/Lib.antt").write_text("pub mod Drawn\n")
     text = MODULE
     for claim, cases in claims:
@@ -309,8 +309,8 @@ def main():
         for name, (kind, place, sound) in OFF.items():
             cases = (case for case in drawn() if case.kind == kind and not (sound and case.verdict))
             case = next(case for case in cases if off_by_one(case, place) != case)
-            claims += [(f"{name}-drawn", [case]), (f"{name}-off", [off_by_one(case, place)])]
-            print(f"{name}-off")
+            claims += [(f"{name}_drawn", [case]), (f"{name}_off", [off_by_one(case, place)])]
+            print(f"{name}_off")
         write_crate(repository, "off_by_one", claims)
         return
     cases = list(itertools.islice(drawn(), int(count)))

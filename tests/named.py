@@ -14,7 +14,7 @@ import sys
 
 # What is not of this repository: words of Rattle, names of the toolchain's libraries, what the ladder prints, programs.
 NOT_OURS = {"else", "ensures", "extern", "fn", "let", "let .. else", "match", "mut", "pub", "pub use", "refl", "requires",
-            "return", "use", "u8", "u32", "u64", "Counts", "Post", "Reads", "ptr", "refused NUMBER DETAIL"}
+            "return", "use", "u8", "u32", "u64", "IsPrefixLen", "Post", "Reads", "ref_ptr", "refused NUMBER DETAIL"}
 PROGRAMS = {"rt"}
 
 FOLDERS = (".ci", "bench", "crates", "docs", "examples", "include", "profiles", "tests", "tools")
@@ -69,7 +69,7 @@ class Repository:
         self.functions, self.edits, self.declared = {}, {}, {}  # by crate, by crate, by file
         self.names, self.members, self.files = set(), {}, set()
         for folder, below, files in os.walk(self.top):
-            below[:] = [name for name in below if name not in (".git", "target", "__pycache__")]
+            below[:] = [name for name in below if name not in (".git", "out", "target", "__pycache__")]
             self.files |= set(files)
         for crate in sorted((self.top / "crates").iterdir()):
             self.add_crate(crate)
@@ -278,7 +278,9 @@ class Page:
 
 
 def pages(top):
+    """All pages but the one that sets the old names beside the new."""
     found = [*sorted(top.glob("docs/*.md")), *sorted(top.glob("docs/tickets/*.md"))]
+    found.remove(top / "docs/PORT.md")
     return ["README.md", *(path.relative_to(top).as_posix() for path in found)]
 
 

@@ -54,7 +54,7 @@ RIGHT = [
     "[notes](docs/NOTES.md), crates/NAME/specs, proofs/Laws.antt, `crates/box/src/lib.rt`; box: `half_full`",
     THEOREMS + "| `one-filling`, `no-filling` | n is 8 | box, proofs/Laws.antt, Other.antt |",
     EDITS + "| `box::fill_box` | box: `half_full`; lid: all |\n| `lid::shut` | the same |\n| `lid::shut` | |",
-    "    tests/run 100 7    # as in docs/NOTES.md\n    rt staticlib box",
+    "    tests/run 100 7    # as in docs/NOTES.md\n    rt ci box",
     "    jobs 3 rows 9\n    ...\n",
     "    crates/NAME/src    code\n    tests, include     tests",
 ]
@@ -89,7 +89,7 @@ WRONG = [
     "    tests/walk 100",
     "    docs/NOTES.md",
     "    tests/run 100    # as in docs/NOTE.md",
-    "    rt staticlib bax",
+    "    rt ci bax",
     "    jobs 3 rows 10",
     "    crates/NAME/code    code",
 ]

@@ -75,9 +75,9 @@ row_good p bytes k =
     && (zeros_from (periods_at bytes k) p.n (8 - p.n) && (eqb (need (jobs_of p) (periods_of p (periods_at bytes k))).0 (start_at bytes k).0 && after_good p bytes k))
 
 -- the first of m rows from row k on that is not good, counted from 1; 0 where there is none
-unfoldable pub first_bad_lem : Profile → List ℕ → ℕ → ℕ → ℕ
-first_bad_lem p bytes k zero = 0
-first_bad_lem p bytes k (suc m) = cond (row_good p bytes k) (first_bad_lem p bytes (k + 1) m) (k + 1)
+unfoldable pub first_bad_from : Profile → List ℕ → ℕ → ℕ → ℕ
+first_bad_from p bytes k zero = 0
+first_bad_from p bytes k (suc m) = cond (row_good p bytes k) (first_bad_from p bytes (k + 1) m) (k + 1)
 
 module _ (p : Profile) (bytes : List ℕ) (few : p.n ≤ 8) where
   after_only : (k : ℕ) → after_good p bytes k ≡ true → (j : ℕ) → k ≡ j + 1 → ((start_at bytes j).0 < (start_at bytes k).0) × (loss_at p bytes k < loss_at p bytes j)
@@ -114,16 +114,16 @@ module _ (p : Profile) (bytes : List ℕ) (few : p.n ≤ 8) where
       both_hold (permits_all _ _ _ g.permitted)
       (both_hold (zeros_all _ (8 - p.n) p.n (λ j from to. g.zeros j from (omega arith))) (both_hold (eq-eqb _ _ g.start) (after_all k g)))
 
-  checked_from : (m k : ℕ) → k + m ≡ rows_in bytes → ((j : ℕ) → j < k → GoodRow p bytes j) → Checked p bytes (first_bad_lem p bytes k m)
-  unfolding first_bad_lem
+  checked_from : (m k : ℕ) → k + m ≡ rows_in bytes → ((j : ℕ) → j < k → GoodRow p bytes j) → Checked p bytes (first_bad_from p bytes k m)
+  unfolding first_bad_from
   checked_from zero k e good = all_good (λ j less. good j (omega arith))
   checked_from (suc m) k e good = go (row_good p bytes k) refl (checked_from m (k + 1) (omega arith))
     where
       go : (t : Bool) → row_good p bytes k ≡ t →
-          (((j : ℕ) → j < k + 1 → GoodRow p bytes j) → Checked p bytes (first_bad_lem p bytes (k + 1) m)) →
-          Checked p bytes (cond t (first_bad_lem p bytes (k + 1) m) (k + 1))
+          (((j : ℕ) → j < k + 1 → GoodRow p bytes j) → Checked p bytes (first_bad_from p bytes (k + 1) m)) →
+          Checked p bytes (cond t (first_bad_from p bytes (k + 1) m) (k + 1))
       go true f later = later (below_next {P = GoodRow p bytes} (row_only k f) good)
       go false f later = first_bad {k = k} (record { there = omega arith; bad = λ g. true≢false (sym (row_all k g) ∙ f); before = good })
 
-  pub bad_computed : Checked p bytes (first_bad_lem p bytes 0 (rows_in bytes))
+  pub bad_computed : Checked p bytes (first_bad_from p bytes 0 (rows_in bytes))
   bad_computed = checked_from (rows_in bytes) 0 (omega arith) (λ j h. absurd (not-suc-le-zero h))

@@ -19,7 +19,7 @@ use Rattle.model.proofs.Validity.{sound_valid}
 use Rattle.table_row.specs.Table.{rows_in, start_at}
 use Rattle.table_check.specs.Formed.{GoodRow, WholeRows, WellFormed}
 use Rattle.table_check.specs.Checks.{Checked, all_good, first_bad}
-use Rattle.table_check.proofs.Tests.{first_bad_lem, bad_computed}
+use Rattle.table_check.proofs.Tests.{first_bad_from, bad_computed}
 use Rattle.table_lookup.specs.Lookup.{no_count, Finds, wrong_length, bad_row, below_first, answering, Locates}
 use Rattle.table_lookup.proofs.Finding.{last_within, last_answers}
 
@@ -43,8 +43,8 @@ whole_rows bytes = ltb 0 (length bytes) && eqb (length bytes % 16) 0
 unfoldable pub find_for : Profile → List ℕ → PagesPerHour → Counted
 find_for p bytes b =
     cond (whole_rows bytes)
-    (cond (ltb 0 (first_bad_lem p bytes 0 (rows_in bytes)))
-    (no_count (Row (first_bad_lem p bytes 0 (rows_in bytes))))
+    (cond (ltb 0 (first_bad_from p bytes 0 (rows_in bytes)))
+    (no_count (Row (first_bad_from p bytes 0 (rows_in bytes))))
     (cond (ltb b.0 (start_at bytes 0).0) (no_count (Budget (start_at bytes 0))) (record { verdict = Sound; count = last_within bytes b (rows_in bytes) + 1 })))
     (no_count (Row 0))
 
@@ -67,7 +67,7 @@ module _ (p : Profile) (bytes : List ℕ) (b : PagesPerHour) where
   find_meets few = go (whole_rows bytes) refl (ltb 0 bad) refl (ltb b.0 (start_at bytes 0).0) refl
     where
       bad : ℕ
-      bad = first_bad_lem p bytes 0 (rows_in bytes)
+      bad = first_bad_from p bytes 0 (rows_in bytes)
 
       checked : Checked p bytes bad
       checked = bad_computed p bytes few
