@@ -14,7 +14,7 @@ import sys
 
 # What is not of this repository: words of Rattle, names of the toolchain's libraries, what the ladder prints, programs.
 NOT_OURS = {"else", "ensures", "extern", "fn", "let", "let .. else", "match", "mut", "pub", "pub use", "refl", "requires",
-            "return", "use", "u8", "u32", "u64", "IsPrefixLen", "Post", "Reads", "ref_ptr", "refused NUMBER DETAIL"}
+            "return", "use", "u8", "u32", "u64", "Clone", "Copy", "IsPrefixLen", "Post", "Reads", "ref_ptr", "refused NUMBER DETAIL"}
 PROGRAMS = {"rt"}
 
 FOLDERS = (".ci", "bench", "crates", "docs", "examples", "include", "profiles", "tests", "tools")
