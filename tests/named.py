@@ -1,5 +1,5 @@
 #!/usr/bin/env python3
-"""tests/named.py: all that README.md and the pages in docs/ name exists: files, crates, functions, definitions, theorems,
+"""tests/named.py: all that README.md and the pages in docs/, PORT.md aside, name exists: files, crates, functions, definitions, theorems,
 edits.
 
 A name stands in backticks, in a link, or as a path in plain text. Two kinds of table say where to look: a theorem is declared
@@ -280,8 +280,7 @@ class Page:
 def pages(top):
     """All pages but the one that sets the old names beside the new."""
     found = [*sorted(top.glob("docs/*.md")), *sorted(top.glob("docs/tickets/*.md"))]
-    found.remove(top / "docs/PORT.md")
-    return ["README.md", *(path.relative_to(top).as_posix() for path in found)]
+    return ["README.md", *(path.relative_to(top).as_posix() for path in found if path.name != "PORT.md")]
 
 
 def main():

@@ -17,4 +17,4 @@ same_test hi least m pos = go (ltb hi (m * least)) refl
     go false e = e ∙ sym (le-ltb (hi / least) m ((le-div_iff_mul-le pos).1 (ltb-false _ _ e)))
 
 pub returns : goal.returns
-returns c = grind (arith, same_test c.args.hi.0 c.args.least.0 c.args.m c.requires.0)
+returns c = same_test c.args.hi.0 c.args.least.0 c.args.m c.requires.0
