@@ -12,7 +12,7 @@ use Rattle.model.specs.declared.Counted.{Counted}
 use Rattle.model.specs.declared.Verdict.{Verdict}
 use Rattle.model.specs.declared.Verdict.TheVariants.{Sound, Room}
 use Rattle.model.specs.Model.{number_of, refuse_if, or_else, if_sound, verdict_of, row_size, count_verdict, PutsFront}
-use Rattle.model.proofs.Verdicts.{Refuses, sound_of_zero, sound_passes, beside_sound, beside_refusal}
+use Rattle.model.proofs.Verdicts.{Refuses, unsound_stays, sound_passes, beside_sound, beside_refusal}
 use Rattle.model.proofs.ProfileFirst.{sound_or_not, beside_unsound}
 
 -- a refusal leaves the buffer as it was, and the count zero
@@ -60,14 +60,10 @@ module _ (p : Profile) (rows : ℕ) (bytes old : List ℕ) (count : ℕ) (sound 
   rows_put e = all_put p _ rows bytes old sound (sym e ∙ judged) is (row_size * rows)
 
 -- a refused profile decides alone
-own_first : (p : Profile) (next : Verdict) → (verdict_of p ≡ Sound → ⊥) → or_else (verdict_of p) next ≡ verdict_of p
-unfolding or_else refuse_if
-own_first p next unsound = rw (ne_eqb (number_of (verdict_of p)) 0 (λ z. unsound (sound_of_zero (verdict_of p) z)))
-
 own_alone : (p : Profile) {next : Verdict} {many : ℕ} {front old new : List ℕ} {r : Counted} → (verdict_of p ≡ Sound → ⊥) → PutsFront p next many front old r new
     → (r ≡ record { verdict = verdict_of p; count = 0 }) × (new ≡ old)
 own_alone p {next} unsound put =
-    let verdict = put.verdict ∙ own_first p next unsound in
+    let verdict = put.verdict ∙ unsound_stays (verdict_of p) next unsound in
     let count = put.count ∙ beside_unsound _ _ (λ z. unsound (sym verdict ∙ z)) in
     (λ i. record { verdict = verdict i; count = count i }, put.bytes ∙ beside_unsound _ _ (λ z. unsound (sym verdict ∙ z)))
 

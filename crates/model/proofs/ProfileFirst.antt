@@ -1,14 +1,13 @@
 -- The profile's own verdict comes first: a refusal is the answer, and past a sound one the rest decides. So one outcome of the rest is one
 -- outcome of the whole. Assumes nothing.
-use mathlib.Core.Path.{◌≡◌, sym, ◌∙◌, ap, subst}
+use mathlib.Core.Path.{◌≡◌, refl, sym, ◌∙◌, ap, subst}
 use native.Mathlib.Decide.{ℕ_discrete}
 use lib.Dec.{T, ltb}
-use borrow.Author.Tests.{ne_eqb}
 use Rattle.model.specs.declared.Profile.{Profile}
 use Rattle.model.specs.declared.Verdict.{Verdict}
 use Rattle.model.specs.declared.Verdict.TheVariants.{Sound}
 use Rattle.model.specs.Model.{number_of, if_sound, verdict_of, ProfileFirst}
-use Rattle.model.proofs.Verdicts.{Refuses, sound_of_zero, beside_sound}
+use Rattle.model.proofs.Verdicts.{Refuses, sound_of_zero, refuses, beside_sound, beside_refusal}
 
 pub sound_or_not : (v : Verdict) → Dec (v ≡ Sound)
 sound_or_not v = go (ℕ_discrete (number_of v) 0)
@@ -19,8 +18,7 @@ sound_or_not v = go (ℕ_discrete (number_of v) 0)
 
 -- what stands beside a verdict that is not sound
 pub beside_unsound : {A : Type 0} {v : Verdict} (answer none : A) → (v ≡ Sound → ⊥) → if_sound v answer none ≡ none
-unfolding if_sound
-beside_unsound {v} answer none unsound = rw (ne_eqb (number_of v) 0 (λ z. unsound (sound_of_zero v z)))
+beside_unsound {v} answer none unsound = sym (beside_refusal answer none (refuses v unsound) refl)
 
 module _ {A : Type 0} {p : Profile} {refused : Verdict → A} {Rest : A → Type 0} where
   pub own_refused : (v : Verdict) → Refuses v → v ≡ verdict_of p → ProfileFirst p refused Rest (refused v)

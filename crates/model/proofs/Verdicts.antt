@@ -1,17 +1,33 @@
 -- Laws of verdicts: which of two comes first, and what the `else` of `let Verdict::Sound = v else` knows of v.
 -- Assumes nothing.
-use mathlib.Core.Path.{◌≡◌, refl, sym, ap, subst}
+use mathlib.Core.Path.{◌≡◌, refl, sym, ◌∙◌, ap, subst}
 use mathlib.Core.List.{List}
 use mathlib.Core.Bool.{Bool, true, false, ◌||◌, true≢false}
 use lib.Dec.{T, eqb, ltb}
-use borrow.Author.Tests.{eqb-true, eqb-false, ne_eqb}
-use Prim.Native.Nat.{ℕ, ◌+◌, ◌-◌, ◌≤◌, ◌<◌}
+use borrow.Author.Tests.{eqb-true, eqb-false, ne_eqb, lt-ltb}
+use Prim.Native.Nat.{ℕ, zero, suc, ◌+◌, ◌-◌, ◌≤◌, ◌<◌}
 use native.Mathlib.Omega.{arith}
 use lib.ListN.{get_or}
 use Rattle.model.specs.declared.Verdict.{Verdict}
 use Rattle.model.specs.declared.Verdict.TheVariants.{Sound, NoBytes, Edition, JobCount, Length, Interval, Stiffness, Spare, Pages, NoPeriods, Budget, Room, Row, Periods}
 use Rattle.model.specs.Model.{number_of, refuse_if, or_else, if_sound, entries, first_refused}
 use Rattle.model.proofs.Entries.{entries_step, entries_end}
+
+pub sound_of_zero : (v : Verdict) → number_of v ≡ 0 → v ≡ Sound
+sound_of_zero Sound e = refl
+sound_of_zero NoBytes e = absurd (eqb-false _ 0 refl e)
+sound_of_zero Edition e = absurd (eqb-false _ 0 refl e)
+sound_of_zero JobCount e = absurd (eqb-false _ 0 refl e)
+sound_of_zero Length e = absurd (eqb-false _ 0 refl e)
+sound_of_zero (Interval k) e = absurd (eqb-false _ 0 refl e)
+sound_of_zero (Stiffness k) e = absurd (eqb-false _ 0 refl e)
+sound_of_zero (Spare k) e = absurd (eqb-false _ 0 refl e)
+sound_of_zero (Pages k) e = absurd (eqb-false _ 0 refl e)
+sound_of_zero NoPeriods e = absurd (eqb-false _ 0 refl e)
+sound_of_zero (Budget b) e = absurd (eqb-false _ 0 refl e)
+sound_of_zero (Room k) e = absurd (eqb-false _ 0 refl e)
+sound_of_zero (Row k) e = absurd (eqb-false _ 0 refl e)
+sound_of_zero (Periods k) e = absurd (eqb-false _ 0 refl e)
 
 -- v, told to be a, is sound: what comes after it decides
 pub sound_passes : {v a : Verdict} (rest : Verdict) → v ≡ a → v ≡ Sound → or_else a rest ≡ rest
@@ -23,28 +39,23 @@ abbrev pub Refuses : Verdict → Type 0
 Refuses v = T (ltb 0 (number_of v))
 
 pub refuses : (v : Verdict) → (v ≡ Sound → ⊥) → Refuses v
-refuses Sound h = absurd (h refl)
-refuses NoBytes h = tt
-refuses Edition h = tt
-refuses JobCount h = tt
-refuses Length h = tt
-refuses (Interval k) h = tt
-refuses (Stiffness k) h = tt
-refuses (Spare k) h = tt
-refuses (Pages k) h = tt
-refuses NoPeriods h = tt
-refuses (Budget b) h = tt
-refuses (Room k) h = tt
-refuses (Row k) h = tt
-refuses (Periods k) h = tt
+refuses v unsound = go (number_of v) refl
+  where
+    go : (n : ℕ) → number_of v ≡ n → Refuses v
+    go zero e = absurd (unsound (sound_of_zero v e))
+    go (suc n) e = subst T (sym (lt-ltb 0 (number_of v) (omega arith))) tt
 
-not_zero : (v : Verdict) → Refuses v → eqb (number_of v) 0 ≡ false
+pub not_zero : (v : Verdict) → Refuses v → eqb (number_of v) 0 ≡ false
 not_zero v h = ne_eqb (number_of v) 0 (λ e. subst (λ (n : ℕ). T (ltb 0 n)) e h)
 
--- v, told to be a, is a refusal: it stands before whatever would come after it
-pub refused_stays : {v a : Verdict} (rest : Verdict) → v ≡ a → (v ≡ Sound → ⊥) → v ≡ or_else a rest
+-- a verdict that is not sound stands before whatever would come after it
+pub unsound_stays : (v rest : Verdict) → (v ≡ Sound → ⊥) → or_else v rest ≡ v
 unfolding or_else refuse_if
-refused_stays {v} rest e h = sym (rw (← e, not_zero v (refuses v h)))
+unsound_stays v rest unsound = rw (not_zero v (refuses v unsound))
+
+-- the same of v, told to be a
+pub refused_stays : {v a : Verdict} (rest : Verdict) → v ≡ a → (v ≡ Sound → ⊥) → v ≡ or_else a rest
+refused_stays {v} rest e unsound = sym (unsound_stays v rest unsound) ∙ ap (λ (w : Verdict). or_else w rest) e
 
 -- what stands beside a verdict v
 pub beside_sound : {A : Type 0} {v : Verdict} (answer none : A) → Sound ≡ v → answer ≡ if_sound v answer none
@@ -64,22 +75,6 @@ module _ {A : Type 0} (judgeOne : A → ℕ → Verdict) (d : A) (xs : List A) (
   pub all_judged : n ≤ k → first_refused judgeOne k (entries d xs k (n - k)) ≡ Sound
   unfolding first_refused
   all_judged h = ap (first_refused judgeOne k) (entries_end d xs k n h)
-
-pub sound_of_zero : (v : Verdict) → number_of v ≡ 0 → v ≡ Sound
-sound_of_zero Sound e = refl
-sound_of_zero NoBytes e = absurd (eqb-false _ 0 refl e)
-sound_of_zero Edition e = absurd (eqb-false _ 0 refl e)
-sound_of_zero JobCount e = absurd (eqb-false _ 0 refl e)
-sound_of_zero Length e = absurd (eqb-false _ 0 refl e)
-sound_of_zero (Interval k) e = absurd (eqb-false _ 0 refl e)
-sound_of_zero (Stiffness k) e = absurd (eqb-false _ 0 refl e)
-sound_of_zero (Spare k) e = absurd (eqb-false _ 0 refl e)
-sound_of_zero (Pages k) e = absurd (eqb-false _ 0 refl e)
-sound_of_zero NoPeriods e = absurd (eqb-false _ 0 refl e)
-sound_of_zero (Budget b) e = absurd (eqb-false _ 0 refl e)
-sound_of_zero (Room k) e = absurd (eqb-false _ 0 refl e)
-sound_of_zero (Row k) e = absurd (eqb-false _ 0 refl e)
-sound_of_zero (Periods k) e = absurd (eqb-false _ 0 refl e)
 
 -- a sound chain of checks: no test of it held
 pub test_passed : (t : Bool) (refusal rest : Verdict) → T (ltb 0 (number_of refusal)) → refuse_if t refusal rest ≡ Sound → (t ≡ false) × (rest ≡ Sound)
@@ -116,8 +111,3 @@ number_small (Budget b) = omega arith
 number_small (Room k) = omega arith
 number_small (Row k) = omega arith
 number_small (Periods k) = omega arith
-
--- a verdict that is not sound stands before whatever would come after it
-pub unsound_stays : (v rest : Verdict) → (v ≡ Sound → ⊥) → or_else v rest ≡ v
-unfolding or_else
-unsound_stays v rest n = rw (ne_eqb (number_of v) 0 (λ z. n (sound_of_zero v z)))

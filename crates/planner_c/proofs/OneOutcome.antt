@@ -13,28 +13,28 @@ use Rattle.planner_c.proofs.charopleth_lookup.Reads as lookup-contract
 
 pub charopleth_read_one_outcome : (κs : _) (a : _) (r s : ℕ) (e e' : _) →
     read-contract.Post κs a r e → read-contract.Post κs a s e' → (r ≡ s) × (e.1.0.now ≡ e'.1.0.now)
-charopleth_read_one_outcome κs a r s e e' one other = planner-outcomes.charopleth_read_one_outcome κs a r s e e' one other
+charopleth_read_one_outcome = planner-outcomes.charopleth_read_one_outcome
 
 pub charopleth_write_one_outcome : (κs : _) (a : _) (r s : ℕ) (e e' : _) →
     write-contract.Post κs a r e → write-contract.Post κs a s e' → (r ≡ s) × (e.1.1.0.now ≡ e'.1.1.0.now)
-charopleth_write_one_outcome κs a r s e e' one other = planner-outcomes.charopleth_write_one_outcome κs a r s e e' one other
+charopleth_write_one_outcome = planner-outcomes.charopleth_write_one_outcome
 
 pub charopleth_score_one_outcome : (κs : _) (a : _) (r s : ℕ) (e e' : _) →
     score-contract.Post κs a r e → score-contract.Post κs a s e' → (r ≡ s) × (e.1.1.1.0.now ≡ e'.1.1.1.0.now)
-charopleth_score_one_outcome κs a r s e e' one other = planner-outcomes.charopleth_score_one_outcome κs a r s e e' one other
+charopleth_score_one_outcome = planner-outcomes.charopleth_score_one_outcome
 
 pub charopleth_choose_one_outcome : (κs : _) (a : _) (r s : ℕ) (e e' : _) →
     choose-contract.Post κs a r e → choose-contract.Post κs a s e' → (r ≡ s) × (e.1.1.1.0.now ≡ e'.1.1.1.0.now)
-charopleth_choose_one_outcome κs a r s e e' one other = planner-outcomes.charopleth_choose_one_outcome κs a r s e e' one other
+charopleth_choose_one_outcome = planner-outcomes.charopleth_choose_one_outcome
 
 pub charopleth_zones_one_outcome : (κs : _) (a : _) (r s : ℕ) (e e' : _) →
     zones-contract.Post κs a r e → zones-contract.Post κs a s e' → (r ≡ s) × (e.1.1.0.now ≡ e'.1.1.0.now)
-charopleth_zones_one_outcome κs a r s e e' one other = planner-outcomes.charopleth_zones_one_outcome κs a r s e e' one other
+charopleth_zones_one_outcome = planner-outcomes.charopleth_zones_one_outcome
 
 pub charopleth_table_one_outcome : (κs : _) (a : _) (r s : ℕ) (e e' : _) →
     table-contract.Post κs a r e → table-contract.Post κs a s e' → (r ≡ s) × (e.1.1.0.now ≡ e'.1.1.0.now)
-charopleth_table_one_outcome κs a r s e e' one other = planner-outcomes.charopleth_table_one_outcome κs a r s e e' one other
+charopleth_table_one_outcome = planner-outcomes.charopleth_table_one_outcome
 
 pub charopleth_lookup_one_outcome : (κs : _) (a : _) (r s : ℕ) (e e' : _) →
     lookup-contract.Post κs a r e → lookup-contract.Post κs a s e' → r ≡ s
-charopleth_lookup_one_outcome κs a r s e e' one other = planner-outcomes.charopleth_lookup_one_outcome κs a r s e e' one other
+charopleth_lookup_one_outcome = planner-outcomes.charopleth_lookup_one_outcome
