@@ -1,6 +1,6 @@
 #!/usr/bin/env python3
-"""tests/named.py: all that README.md and the pages in docs/, PORT.md aside, name exists: files, crates, functions, definitions, theorems,
-edits.
+"""tests/named.py: all that README.md and the pages in docs/, PORT.md aside, name exists: files, crates, functions,
+definitions, theorems, edits.
 
 A name stands in backticks, in a link, or as a path in plain text. Two kinds of table say where to look: a theorem is declared
 in a file of its row's `where`, and an edit is in must-fail/ of the crate before it. A command in a code block can be run. What
