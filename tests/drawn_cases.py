@@ -21,7 +21,8 @@ LIST = 300
 
 # Values as the text of a case, in the words of crates/cases/specs/Case.antt.
 
-VERDICTS = ("Sound", "NoBytes", "Edition", "JobCount", "Length", "(Interval {})", "(Stiffness {})", "(Spare {})", "(Pages {})",
+# The refusals 1 to 13, each with its detail.
+REFUSALS = ("NoBytes", "Edition", "JobCount", "Length", "(Interval {})", "(Stiffness {})", "(Spare {})", "(Pages {})",
             "NoPeriods", "(below {})", "(Room {})", "(Row {})", "(Periods {})")
 
 
@@ -37,13 +38,13 @@ def as_profile(n, jobs):
     return f"(record {{ n = {n}; jobs = {as_jobs(jobs)} }})"
 
 
-def as_answer(verdict, refused, sound):
-    """The sound answer, or the word for a refused one before the verdict."""
-    return f"({refused} {VERDICTS[verdict[0]].format(verdict[1])})" if verdict else f"({sound})"
+def as_answer(verdict, answer):
+    """The answer, or the refusal in its place."""
+    return f"(Err {REFUSALS[verdict[0] - 1].format(verdict[1])})" if verdict else f"({answer})"
 
 
 def as_count(verdict, count):
-    return as_answer(verdict, "no_count", f"number {count}")
+    return as_answer(verdict, f"number {count}")
 
 
 # What is asked about. Permitted lists are few, so that the checker computes every case in a moment.
@@ -168,13 +169,13 @@ def in_a_room(writes):
 def reading():
     data = profile_bytes(sound_jobs())
     verdict, jobs = unpacked(data)
-    return as_list(data), as_answer(verdict, "no_values", f"values {as_jobs(jobs)}"), verdict
+    return as_list(data), as_answer(verdict, f"values {as_jobs(jobs)}"), verdict
 
 
 def permitting():
     jobs = sound_jobs()
     lists = as_list(as_list(f"seconds {t}" for t in ts) for ts in permitted(jobs))
-    return as_profile(len(jobs), jobs), f"Sound {lists}", None
+    return as_profile(len(jobs), jobs), f"sound {lists}", None
 
 
 def counting():
@@ -197,7 +198,7 @@ def scoring():
     if not verdict:
         verdict, whole, remainder, loss = scored(jobs[:n], periods)
     asked = f"{as_profile(n, jobs)} {as_list(f'seconds {t}' for t in periods)}"
-    return asked, as_answer(verdict, "no_score", f"scored {whole} {remainder} {loss}"), verdict
+    return asked, as_answer(verdict, f"scored {whole} {remainder} {loss}"), verdict
 
 
 def choosing():
@@ -207,7 +208,7 @@ def choosing():
     if not verdict:
         verdict, (whole, remainder, loss), ts = chosen(jobs[:n], budget)
     plan = f"plan {whole} {remainder} {loss} {as_list(ts)}"
-    return f"{as_profile(n, jobs)} {budget}", as_answer(verdict, "no_choice", plan), verdict
+    return f"{as_profile(n, jobs)} {budget}", as_answer(verdict, plan), verdict
 
 
 def looking_up():
@@ -262,12 +263,10 @@ def off_by_one(case, place):
 MODULE = f"""-- Cases that were drawn, with what tests/rules.py gives for them. Assumes nothing.
 use mathlib.Core.Path.{{refl}}
 use mathlib.Core.List.{{List, [], ◌∷◌, Memᴰ}}
-use Rattle.model.specs.declared.Verdict.TheVariants.{{{", ".join(v.strip("(){} ") for v in VERDICTS if "below" not in v)}}}
-use Rattle.model.specs.Model.{{seconds}}
-use Rattle.score.specs.Scoring.{{no_score}}
-use Rattle.choose.specs.Choice.{{no_choice}}
-use Rattle.table_lookup.specs.Lookup.{{no_count}}
-use Rattle.cases.specs.Case.{{Case, Right, {", ".join(KINDS)}, job, values, no_values, plan, scored, below, number}}
+use Rattle.std.specs.Prelude.{{Err}}
+use Rattle.model.specs.declared.Refusal.TheVariants.{{{", ".join(r.strip("(){} ") for r in REFUSALS if "below" not in r)}}}
+use Rattle.model.specs.Model.{{sound, seconds}}
+use Rattle.cases.specs.Case.{{Case, Right, {", ".join(KINDS)}, job, values, plan, scored, below, number}}
 use Rattle.cases.proofs.Worked.{{Computed, all_right}}
 """
 CLAIM = """
@@ -297,7 +296,7 @@ def write_crate(repository, name, claims):
         text += CLAIM.format(name=claim, cases="\n    ∷ ".join(f"{case.kind} {case.asked} {case.answer}" for case in cases))
     (crate / "proofs/Drawn.antt").write_text(text)
     with open(repository / "crates.txt", "a") as crates:
-        crates.write(f"{name}: model score choose table_lookup cases\n")
+        crates.write(f"{name}: model cases\n")
 
 
 def main():

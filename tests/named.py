@@ -1,6 +1,6 @@
 #!/usr/bin/env python3
-"""tests/named.py: all that README.md and the pages in docs/, PORT.md aside, name exists: files, crates, functions,
-definitions, theorems, edits.
+"""tests/named.py: all that README.md and the pages in docs/, PORT.md and DESIGN-PASS.md aside, name exists: files, crates,
+functions, definitions, theorems, edits.
 
 A name stands in backticks, in a link, or as a path in plain text. Two kinds of table say where to look: a theorem is declared
 in a file of its row's `where`, and an edit is in must-fail/ of the crate before it. A command in a code block can be run. What
@@ -14,7 +14,7 @@ import sys
 
 # What is not of this repository: words of Rattle, names of the toolchain's libraries, what the ladder prints, programs.
 NOT_OURS = {"else", "ensures", "extern", "fn", "let", "let .. else", "match", "mut", "pub", "pub use", "refl", "requires",
-            "return", "use", "u8", "u32", "u64", "Clone", "Copy", "IsPrefixLen", "Post", "Reads", "ref_ptr", "refused NUMBER DETAIL"}
+            "return", "use", "u8", "u32", "u64", "Clone", "Copy", "From", "Option", "Result", "?", "IsPrefixLen", "Post", "Reads", "ref_ptr", "refused NUMBER DETAIL"}
 PROGRAMS = {"rt"}
 
 FOLDERS = (".ci", "bench", "crates", "docs", "examples", "include", "profiles", "tests", "tools")
@@ -56,7 +56,7 @@ def declarations(text):
 def code(text):
     """The functions of a source file, its types and constants, and the fields or variants of each type."""
     functions = set(re.findall(r"\bfn +(\w+)", text))
-    types = set(re.findall(r"\b(?:struct|enum|const|static) +(\w+)", text))
+    types = set(re.findall(r"\b(?:struct|enum|trait|const|static) +(\w+)", text))
     members = {}
     for name, body in re.findall(r"\b(?:struct|enum) +(\w+) *\{(.*?)^\}", text, re.S | re.M):
         members[name] = set(re.findall(r"^    (?:pub +)?(\w+)", body, re.M))
@@ -280,7 +280,7 @@ class Page:
 def pages(top):
     """All pages but the one that sets the old names beside the new."""
     found = [*sorted(top.glob("docs/*.md")), *sorted(top.glob("docs/tickets/*.md"))]
-    return ["README.md", *(path.relative_to(top).as_posix() for path in found if path.name != "PORT.md")]
+    return ["README.md", *(path.relative_to(top).as_posix() for path in found if path.name not in ("PORT.md", "DESIGN-PASS.md"))]
 
 
 def main():

@@ -22,9 +22,11 @@ use Rattle.zones.specs.Zones.{rows_of}
 use Rattle.table.specs.Table.{table_bytes}
 use Rattle.table.specs.Descent.{up_to, descent}
 use Rattle.table_row.specs.Table.{row_fields}
-use Rattle.table_check.proofs.Tests.{permits, zeros_from, after_good, row_good, first_bad_from}
+use Rattle.table_row.specs.Cut.{follows}
+use Rattle.table_check.proofs.Tests.{permits, zeros_from, row_good, first_bad_from}
+use Rattle.table_lookup.specs.Lookup.{place_found}
 use Rattle.table_lookup.proofs.Finding.{last_within}
-use Rattle.table_lookup.proofs.Computed.{whole_rows, find_for, locate_for}
+use Rattle.table_lookup.proofs.Computed.{whole_rows, unless_bad, find_for, locate_for}
 use Rattle.cases.specs.Case.{Case, Right}
 use Rattle.cases.specs.Cases.{cases}
 use Rattle.cases.proofs.Anew.{choice_for, reading_for, counted, after, roomy, anew, anew_right}
@@ -34,8 +36,8 @@ unfoldable pub Computed : List Case → Type 0
 unfolding anew reading_for verdict_of_bytes judge_header header_of records_in judge_record profile_bytes record_bytes chains_by choice_for score_for counted after
     roomy settle walk_by visit pick less_need beats multiples rising_from climb_to multiples_down falling_from descend_to in_turn load need_at cost rate job_loss entries
     verdict_of refuse_if or_else if_sound first_refused judge_interval_and_stiffness judge_job need rounded_up exact_need loss pages_in sum_over pages_at running data_of commit_of last_of scored_by first_unpermitted judge_period
-    zones_in zones_below unless_empty flat_map rows_of recut pack unpack bits table_bytes table_row descent up_to locate_for find_for whole_rows first_bad_from row_good
-    permits zeros_from after_good allows row_fields last_within
+    zones_in zones_below unless_empty flat_map rows_of recut pack unpack bits table_bytes table_row descent up_to locate_for find_for whole_rows unless_bad first_bad_from row_good
+    permits zeros_from follows allows row_fields last_within place_found
 Computed cs = map anew cs ≡ cs
 
 same_head : {A : Type 0} {x y : A} {xs ys : List A} → x ∷ xs ≡ y ∷ ys → x ≡ y

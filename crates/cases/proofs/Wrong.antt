@@ -2,20 +2,19 @@
 -- defect contradicts it. Assumes nothing.
 use mathlib.Core.Path.{◌≡◌, refl, ◌∙◌, sym, ap}
 use mathlib.Core.List.{List, [], ◌∷◌, ◌++◌}
-use mathlib.Core.Bool.{false}
+use mathlib.Core.Bool.{false, true≢false}
 use Prim.Native.Nat.{ℕ}
 use native.Mathlib.Omega.{arith}
 use lib.ListN.{length, get_or}
 use lib.Dec.{eqb}
 use borrow.Author.Tests.{eqb-false}
+use Rattle.std.specs.Prelude.{Result, Ok}
 use Rattle.model.specs.declared.Profile.{Profile}
-use Rattle.model.specs.declared.Counted.{Counted}
+use Rattle.model.specs.declared.Refusal.{Refusal}
 use Rattle.model.specs.declared.Seconds.{Seconds}
-use Rattle.model.specs.declared.Verdict.{Verdict}
-use Rattle.model.specs.declared.Verdict.TheVariants.{Sound}
-use Rattle.model.specs.Model.{seconds, pages_per_hour, jobs_of, verdict_of, PutsFront}
+use Rattle.model.specs.Model.{Verdict, sound, seconds, pages_per_hour, jobs_of, verdict_of, PutsFront}
 use Rattle.model.specs.ProfileA.{bytes_a}
-use Rattle.model.proofs.Verdicts.{beside_sound, both_sound}
+use Rattle.model.proofs.Verdicts.{both_sound}
 use Rattle.profile_write.specs.Writing.{Writes}
 use Rattle.zone_walk.specs.Zone.{Zone}
 use Rattle.zones.specs.Zones.{ZonesOf, Listed}
@@ -63,31 +62,26 @@ bytes_of_A f = right (writing_in profile_a (lent 25) (number 25) bytes_a) refl _
 -- The seven.
 
 pub no_refuser : (f : Chooser) → RefusesEverything f → ChoosesFor profile_a 4176 f → ⊥
-no_refuser f refuses meets = refuses profile_a (pages_per_hour 4176) (rw (at_4176 f meets) refl)
+no_refuser f refuses meets = true≢false (sym (rw (at_4176 f meets) at (refuses profile_a (pages_per_hour 4176))))
 
 pub no_fixed_plan : (f : Chooser) → GivesOnePlan f → ChoosesFor profile_a 4176 f → ChoosesFor profile_a 5220 f → ⊥
 no_fixed_plan f fixed meets meets-more =
-    let one = at_4176 f meets in
-    let other = at_5220 f meets-more in
-    let same = fixed profile_a (pages_per_hour 4176) (pages_per_hour 5220) (rw one refl) (rw other refl) in
-    differ (λ ts. (get_or ts 0 (seconds 0)).0) (rw (one, other) at same) refl
+    let same = fixed profile_a (pages_per_hour 4176) (pages_per_hour 5220) in
+    differ (λ ts. (get_or ts 0 (seconds 0)).0) (rw (at_4176 f meets, at_5220 f meets-more) at same) refl
 
 pub no_rowless_builder : (f : Filler) → StoresNothing f → MeetsAt Built profile_a (lent 144) f → ⊥
 no_rowless_builder f nothing meets =
     let is = nine_rows f meets in
-    differ (λ bytes. get_or bytes 0 0) (sym is.1 ∙ nothing profile_a (lent 144) (rw is.0 refl)) refl
+    differ (λ bytes. get_or bytes 0 0) (rw (is.0, is.1) at (nothing profile_a (lent 144))) refl
 
 pub no_row_repeater : (f : Filler) → RepeatsFirstRow f → MeetsAt Built profile_a (lent 144) f → ⊥
 no_row_repeater f repeats meets =
     let is = nine_rows f meets in
-    let same = repeats profile_a (lent 144) (rw is.0 refl) 1 (rw is.0 (omega arith)) in
-    differ (λ row. get_or row 3 0) (rw is.1 at same) refl
+    differ (λ row. get_or row 3 0) ((rw (is.0, is.1) at (repeats profile_a (lent 144))) 1 (omega arith)) refl
 
 -- of two profiles, one count is told where the contract allows two
 two_counts : (f : Filler) → InventsCount f → (p q : Profile) (old : List ℕ) (k l : ℕ) → p.n ≡ q.n → (f p old).0 ≡ number k → (f q old).0 ≡ number l → eqb k l ≡ false → ⊥
-two_counts f invents p q old k l jobs one other unequal =
-    let same = invents p q old jobs (rw one refl) (rw other refl) in
-    eqb-false k l unequal (rw (one, other) at same)
+two_counts f invents p q old k l jobs one other unequal = eqb-false k l unequal (rw (one, other) at (invents p q old jobs))
 
 pub no_invented_row_count : (f : Filler) → InventsCount f → MeetsAt Built profile_a (lent 144) f → MeetsAt Built one_list (lent 144) f → ⊥
 no_invented_row_count f invents meets meets-more = two_counts f invents profile_a one_list (lent 144) 9 1 refl (nine_rows f meets).0 (one_row f meets-more) refl
@@ -98,20 +92,23 @@ no_invented_zone_count f invents meets meets-more = two_counts f invents profile
 pub no_idle_writer : (f : Filler) → StoresNothing f → MeetsAt Writes profile_a (lent 25) f → ⊥
 no_idle_writer f nothing meets =
     let is = bytes_of_A f meets in
-    differ (λ bytes. get_or bytes 0 0) (sym is.1 ∙ nothing profile_a (lent 25) (rw is.0 refl)) refl
+    differ (λ bytes. get_or bytes 0 0) (rw (is.0, is.1) at (nothing profile_a (lent 25))) refl
 
--- A count is not invented at any input: beside a sound verdict it is the length of the one list of rows, or of zones.
+-- A count is not invented at any input: where one is answered, it is the length of the one list of rows, or of zones.
 
 -- where rows are put, the profile is sound and the count is theirs
-counted_rows : {p : Profile} {next : Verdict} {k : ℕ} {front old new : List ℕ} {r : Counted} → PutsFront p next k front old r new → r.verdict ≡ Sound → (verdict_of p ≡ Sound) × (r.count ≡ k)
-counted_rows {p} {next} {k} puts sound = ((both_sound (verdict_of p) (sym puts.verdict ∙ sound)).0, puts.count ∙ sym (beside_sound k 0 (sym sound)))
+counted_rows : {p : Profile} {next : Verdict} {k count : ℕ} {front old new : List ℕ} {r : Result ℕ Refusal} → PutsFront p next k front old r new → r ≡ Ok count → (verdict_of p ≡ sound) × (count ≡ k)
+counted_rows {p} {next} {k} {count} puts done =
+    let passed = both_sound (verdict_of p) (sym puts.answer ∙ done) in
+    let told : Ok k ≡ Ok count = (both_sound next passed.1).1 in
+    (passed.0, cc)
 
-pub count_of_rows : {p : Profile} {old new : List ℕ} {r : Counted} → Built p old r new → r.verdict ≡ Sound → {rs : List (List Seconds)} → TableOf (jobs_of p) rs → r.count ≡ length rs
-count_of_rows {p} built sound table =
-    let is = counted_rows built.puts sound in
+pub count_of_rows : {p : Profile} {old new : List ℕ} {r : Result ℕ Refusal} {count : ℕ} → Built p old r new → r ≡ Ok count → {rs : List (List Seconds)} → TableOf (jobs_of p) rs → count ≡ length rs
+count_of_rows {p} built done table =
+    let is = counted_rows built.puts done in
     is.1 ∙ ap length (table_one (jobs_of p) (built.are is.0) table)
 
-pub count_of_zones : {p : Profile} {old new : List ℕ} {r : Counted} → Listed p old r new → r.verdict ≡ Sound → {zs : List Zone} → ZonesOf (jobs_of p) zs → r.count ≡ length zs
-count_of_zones {p} listed sound zones =
-    let is = counted_rows listed.puts sound in
+pub count_of_zones : {p : Profile} {old new : List ℕ} {r : Result ℕ Refusal} {count : ℕ} → Listed p old r new → r ≡ Ok count → {zs : List Zone} → ZonesOf (jobs_of p) zs → count ≡ length zs
+count_of_zones {p} listed done zones =
+    let is = counted_rows listed.puts done in
     is.1 ∙ ap length (zones_one (jobs_of p) (listed.are is.0) zones)

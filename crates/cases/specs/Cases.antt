@@ -1,18 +1,15 @@
 -- The numbers of document 01 and of tickets 3 and 4, and some more of the kind, as one list: an entry says what is asked, of which profile, and
 -- what must come out.
 -- Assumes nothing.
-use Rattle.std.specs.Prelude.{List, [], ◌∷◌, ◌++◌, map, ℕ, take, drop}
+use Rattle.std.specs.Prelude.{Err, List, [], ◌∷◌, ◌++◌, map, ℕ, take, drop}
 use Rattle.model.specs.declared.Seconds.{Seconds}
 use Rattle.model.specs.declared.Job.{Job}
 use Rattle.model.specs.declared.Profile.{Profile}
-use Rattle.model.specs.declared.Verdict.TheVariants.{Sound, NoBytes, Edition, JobCount, Length, Interval, Spare, NoPeriods, Room, Row, Periods}
-use Rattle.model.specs.Model.{seconds}
+use Rattle.model.specs.declared.Refusal.TheVariants.{NoBytes, Edition, JobCount, Length, Interval, Spare, NoPeriods, Room, Row, Periods}
+use Rattle.model.specs.Model.{sound, seconds}
 use Rattle.model.specs.ProfileA.{bytes_a}
-use Rattle.score.specs.Scoring.{no_score}
-use Rattle.choose.specs.Choice.{no_choice}
-use Rattle.table_lookup.specs.Lookup.{no_count}
 use Rattle.cases.specs.Case.{Case, reading, writing, writing_in, permitting, counting, scoring, choosing, listing, listing_in, building, building_in, looking_up}
-use Rattle.cases.specs.Case.{job, interval, profile, values, no_values, eight, plan, scored, below, number, lent, rows}
+use Rattle.cases.specs.Case.{job, interval, profile, values, eight, plan, scored, below, number, lent, rows}
 
 -- The profile that document 01 works with, as values; its bytes stand in model.
 abbrev pub jobs_a : List Job
@@ -111,19 +108,19 @@ cases =
     ∷ writing profile_a (number 25) bytes_a
     ∷ writing_in profile_a (lent 28) (number 25) (bytes_a ++ lent 3)
     -- bytes that are no profile: none, edition 2, no jobs, a byte short, lo above hi in the second job, a spare bit in the third
-    ∷ reading [] (no_values NoBytes)
-    ∷ reading (0x23 ∷ drop 1 bytes_a) (no_values Edition)
-    ∷ reading (0x10 ∷ drop 1 bytes_a) (no_values JobCount)
-    ∷ reading (take 24 bytes_a) (no_values Length)
-    ∷ reading (take 9 bytes_a ++ (0xFF ∷ drop 10 bytes_a)) (no_values (Interval 2))
-    ∷ reading (take 24 bytes_a ++ (0x11 ∷ [])) (no_values (Spare 3))
+    ∷ reading [] (Err NoBytes)
+    ∷ reading (0x23 ∷ drop 1 bytes_a) (Err Edition)
+    ∷ reading (0x10 ∷ drop 1 bytes_a) (Err JobCount)
+    ∷ reading (take 24 bytes_a) (Err Length)
+    ∷ reading (take 9 bytes_a ++ (0xFF ∷ drop 10 bytes_a)) (Err (Interval 2))
+    ∷ reading (take 24 bytes_a ++ (0x11 ∷ [])) (Err (Spare 3))
     -- room too small, for A's bytes, zones and table: nothing is written
-    ∷ writing_in profile_a (lent 24) (no_count (Room 25)) (lent 24)
-    ∷ listing_in profile_a (lent 47) (no_count (Room 3)) (lent 47)
-    ∷ building_in profile_a (lent 128) (no_count (Room 9)) (lent 128)
+    ∷ writing_in profile_a (lent 24) (Err (Room 25)) (lent 24)
+    ∷ listing_in profile_a (lent 47) (Err (Room 3)) (lent 47)
+    ∷ building_in profile_a (lent 128) (Err (Room 9)) (lent 128)
     -- P1
-    ∷ choosing profile_a 4175 (no_choice (below 4176))
-    ∷ looking_up profile_a table_a 4175 (no_count (below 4176)) []
+    ∷ choosing profile_a 4175 (Err (below 4176))
+    ∷ looking_up profile_a table_a 4175 (Err (below 4176)) []
     -- P2
     ∷ choosing profile_a 4176 (plan 4176 0 3281956 (25 ∷ 50 ∷ 100 ∷ []))
     ∷ looking_up profile_a table_a 4176 (number 1) (rows (row₁ ∷ []))
@@ -150,19 +147,19 @@ cases =
     -- P5
     ∷ listing profile_a (number 3) zones_a
     -- P6
-    ∷ permitting one_list Sound (map (map seconds) ((1 ∷ 5 ∷ 35 ∷ []) ∷ []))
+    ∷ permitting one_list sound (map (map seconds) ((1 ∷ 5 ∷ 35 ∷ []) ∷ []))
     ∷ choosing one_list 0xffff_ffff (plan 4422 30 1166400 (1 ∷ 5 ∷ 35 ∷ []))
     ∷ listing one_list (number 1) (rows ((0x00 ∷ 0x10 ∷ 0x01 ∷ 0x00 ∷ 0x50 ∷ 0x23 ∷ []) ∷ []))
     -- P7
-    ∷ choosing (profile (interval 1 1 ∷ interval 2 4 ∷ interval 35 35 ∷ [])) 0xffff_ffff (no_choice NoPeriods)
-    ∷ listing (profile (interval 1 1 ∷ interval 2 4 ∷ interval 35 35 ∷ [])) (no_count NoPeriods) []
-    ∷ building (profile (interval 1 1 ∷ interval 2 4 ∷ interval 35 35 ∷ [])) (no_count NoPeriods) []
+    ∷ choosing (profile (interval 1 1 ∷ interval 2 4 ∷ interval 35 35 ∷ [])) 0xffff_ffff (Err NoPeriods)
+    ∷ listing (profile (interval 1 1 ∷ interval 2 4 ∷ interval 35 35 ∷ [])) (Err NoPeriods) []
+    ∷ building (profile (interval 1 1 ∷ interval 2 4 ∷ interval 35 35 ∷ [])) (Err NoPeriods) []
     -- P8
-    ∷ choosing at_seven 514 (no_choice (below 515))
+    ∷ choosing at_seven 514 (Err (below 515))
     ∷ choosing at_seven 515 (plan 514 2 0 (7 ∷ []))
     -- P9
     ∷ scoring (profile (interval 7 7 ∷ interval 7 7 ∷ [])) (eight (7 ∷ 7 ∷ [])) (scored 1028 4 0)
-    ∷ choosing (profile (interval 7 7 ∷ interval 7 7 ∷ [])) 1028 (no_choice (below 1029))
+    ∷ choosing (profile (interval 7 7 ∷ interval 7 7 ∷ [])) 1028 (Err (below 1029))
     -- with metadata in the place of data they commit once
     ∷ scoring (profile (job 7 7 0 1 1 ∷ job 7 7 0 1 1 ∷ [])) (eight (7 ∷ 7 ∷ [])) (scored 514 2 0)
     -- a need over Tn, not over T1: 313,200 over 66 leaves 30
@@ -174,7 +171,7 @@ cases =
     ∷ choosing in_fractions 52 (plan 51 30 1 (70 ∷ []))
     ∷ building in_fractions (number 3) (rows ((0x00 ∷ 0x00 ∷ 0x00 ∷ 0x32 ∷ 0x04 ∷ 0x80 ∷ []) ∷ (0x00 ∷ 0x00 ∷ 0x00 ∷ 0x34 ∷ 0x04 ∷ 0x60 ∷ []) ∷ (0x00 ∷ 0x00 ∷ 0x00 ∷ 0x35 ∷ 0x04 ∷ 0x40 ∷ []) ∷ []))
     -- in a lent table it is held against a start: 52 for 68 seconds is wrong
-    ∷ looking_up in_fractions (rows ((0x00 ∷ 0x00 ∷ 0x00 ∷ 0x34 ∷ 0x04 ∷ 0x40 ∷ []) ∷ [])) 52 (no_count (Row 1)) []
+    ∷ looking_up in_fractions (rows ((0x00 ∷ 0x00 ∷ 0x00 ∷ 0x34 ∷ 0x04 ∷ 0x40 ∷ []) ∷ [])) 52 (Err (Row 1)) []
     -- P10: the one row, and its loss
     ∷ building (profile (interval 1801 3600 ∷ [])) (number 1) (rows ((0x00 ∷ 0x00 ∷ 0x00 ∷ 0x01 ∷ 0xE1 ∷ 0x00 ∷ []) ∷ []))
     ∷ choosing (profile (interval 1801 3600 ∷ [])) 2 (plan 1 0 0 (3600 ∷ []))
@@ -187,18 +184,18 @@ cases =
     -- a stiffness other than 1: 3 times the square of 1,028 less 102
     ∷ scoring (profile (job 7 70 1 1 3 ∷ [])) (eight (70 ∷ [])) (scored 102 60 2572428)
     -- periods that are not permitted: the second is no multiple of the first
-    ∷ scoring profile_a (eight (25 ∷ 51 ∷ 100 ∷ [])) (no_score (Periods 2))
+    ∷ scoring profile_a (eight (25 ∷ 51 ∷ 100 ∷ [])) (Err (Periods 2))
     -- five zones and nine lists
     ∷ listing (profile (interval 6 10 ∷ interval 11 22 ∷ interval 19 40 ∷ [])) (number 5) five_zones
-    ∷ permitting (profile (interval 6 10 ∷ interval 11 22 ∷ interval 19 40 ∷ [])) Sound nine_lists
+    ∷ permitting (profile (interval 6 10 ∷ interval 11 22 ∷ interval 19 40 ∷ [])) sound nine_lists
     -- a table that is not complete
     ∷ looking_up profile_a (rows (row₁ ∷ row₂ ∷ [])) 4349 (number 1) (rows (row₁ ∷ []))
     ∷ looking_up profile_a (rows (row₁ ∷ row₂ ∷ [])) 4350 (number 2) (rows (row₂ ∷ []))
     ∷ looking_up profile_a (rows (row₁ ∷ row₂ ∷ [])) 0xffff_ffff (number 2) (rows (row₂ ∷ []))
     -- tables that are not well formed: no bytes, a row cut short, falling starts, a row twice, a row of zeros
-    ∷ looking_up profile_a [] 4176 (no_count (Row 0)) []
-    ∷ looking_up profile_a (take 31 (rows (row₁ ∷ row₂ ∷ []))) 4176 (no_count (Row 0)) []
-    ∷ looking_up profile_a (rows (row₂ ∷ row₁ ∷ [])) 4350 (no_count (Row 2)) []
-    ∷ looking_up profile_a (rows (row₁ ∷ row₁ ∷ [])) 4176 (no_count (Row 2)) []
-    ∷ looking_up profile_a (rows ([] ∷ [])) 4176 (no_count (Row 1)) []
+    ∷ looking_up profile_a [] 4176 (Err (Row 0)) []
+    ∷ looking_up profile_a (take 31 (rows (row₁ ∷ row₂ ∷ []))) 4176 (Err (Row 0)) []
+    ∷ looking_up profile_a (rows (row₂ ∷ row₁ ∷ [])) 4350 (Err (Row 2)) []
+    ∷ looking_up profile_a (rows (row₁ ∷ row₁ ∷ [])) 4176 (Err (Row 2)) []
+    ∷ looking_up profile_a (rows ([] ∷ [])) 4176 (Err (Row 1)) []
     ∷ []

@@ -1,14 +1,9 @@
 -- The best plan found, else the least need, else nothing: together they are the outcome that is right for the jobs and the budget.
 -- Assumes nothing.
-use mathlib.Core.Path.{◌≡◌}
 use mathlib.Core.List.{List}
 use Rattle.model.specs.declared.PagesPerHour.{PagesPerHour}
 use Rattle.model.specs.declared.Job.{Job}
-use Rattle.model.specs.declared.Profile.{Profile}
-use Rattle.model.specs.declared.Verdict.TheVariants.{Sound}
-use Rattle.model.specs.Model.{jobs_of, verdict_of}
-use Rattle.choose.specs.declared.Choice.{Choice}
-use Rattle.choose.specs.Choice.{no_choice, Chosen, Outcome, given, none_permitted, none_fit}
+use Rattle.choose.specs.Choice.{Outcome, given, none_permitted, none_fit}
 use Rattle.choose_offer.specs.Found.{Found, nothing, found}
 use Rattle.choose_walk.specs.Least.{Least, none, least}
 use Rattle.choose_walk.specs.Best.{BestOrNone}
@@ -20,11 +15,3 @@ unfolding settle
 settled js b (found q l ts) m h k = given h.best
 settled js b nothing (least m) h k = none_fit k h
 settled js b nothing none h k = none_permitted k
-
--- the two ways to meet the contract
-module _ (p : Profile) (b : PagesPerHour) {r : Choice} where
-  pub chosen_refused : (verdict_of p ≡ Sound → ⊥) → r ≡ no_choice (verdict_of p) → Chosen p b r
-  chosen_refused unsound e = record { own = λ u. e; sound = λ s. absurd (unsound s) }
-
-  pub chosen_sound : verdict_of p ≡ Sound → Outcome (jobs_of p) b r → Chosen p b r
-  chosen_sound s o = record { own = λ u. absurd (u s); sound = λ s'. o }

@@ -1,3 +1,2 @@
 pub mod Updates
-pub mod Stored
-pub mod Winning
+pub mod Kept

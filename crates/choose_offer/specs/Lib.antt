@@ -1,2 +1,3 @@
 pub mod Found
-pub mod Steps
+pub mod Plan
+pub mod Laws

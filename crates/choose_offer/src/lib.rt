@@ -1,97 +1,147 @@
-// One plan held against the best so far: whether it can win, and how it takes the other's place.
+// The best plan that a walk has found so far: which plans cannot take its place, and how another one does.
 //
-// specs/Found.antt says what is kept, specs/Steps.antt what these functions ask and promise. They serve other crates of the
-// planner, and their callers meet what is required. Nothing is assumed.
+// specs/Found.antt says what is kept, and by which update, specs/Plan.antt how clauses see it, specs/Laws.antt that a
+// walk may keep it. Nothing is assumed.
 #![tactic(auto)]
 
-ghost use Rattle.std.specs.Prelude.{◌≡◌, false, ◌<◌};
-ghost use Rattle.step.specs.Step.{NeedFits};
-ghost use Rattle.walk.specs.Steps.{ReadyForCut};
-ghost use Rattle.choose_offer.specs.Steps.{no_plan, Sizes, BestIs, Offers, WinsNothing};
+ghost use Rattle.std.specs.Prelude.{◌≡◌, ◌≤◌, length};
+ghost use Rattle.model.specs.Model.{seconds, padded};
+ghost use Rattle.choose_offer.specs.Found.{nothing, beats, pick};
+ghost use Rattle.choose_offer.specs.Plan.{found_in};
+ghost use Rattle.choose_offer.specs.Laws.{AnyFound, pick_absorbs};
 
-use model::{PagesPerHour, Seconds};
+use model::{ExactNeed, PagesPerHour, Seconds};
+use std::marker::Model;
+use walk::Keep;
 
-// Where the best plan has its need and its loss, behind eight periods.
-pub const NEED: usize = 8;
-
-pub const LOSS: usize = 9;
-
-// More than any loss: nothing found yet.
-pub const NO_PLAN: u64 = 0xffff_ffff_ffff_ffff;
-
-// Whether a plan that begins so could be better than the best: jobs i to n are still to come, and the loss is at least
-// `floor`.
-pub fn may_win(
-    spans: &[u32; 16],
-    rates: &[u32; 17],
-    i: usize,
+// A whole plan: its need rounded up, its loss, and its periods.
+#[derive(Clone, Copy)]
+pub struct Plan {
+    need: PagesPerHour,
+    loss: u64,
+    // The first n of these, and zeros.
     n: usize,
-    budget: PagesPerHour,
-    t: Seconds,
-    written: u64,
-    floor: u64,
-    best: &[u64; 10],
-) -> bool
-    requires ready_for_cut { ReadyForCut spans.now rates.now i n t written }
-    requires floor_lt_no_plan { floor < no_plan }
-    ensures { result ≡ false → WinsNothing spans.now rates.now i n budget t written floor best.now }
-{
-    let need_floor = walk::need_floor(rates, i, t, written);
-    if budget.0 < need_floor.0 {
-        return false;
-    }
-    if floor == best[LOSS] {
-        if best[NEED] <= need_floor.0 as u64 {
-            return false;
+    periods: [Seconds; 8],
+}
+
+impl Model for Plan {
+    ghost use Rattle.std.specs.Prelude.{◌≡◌, ◌≤◌, length, take};
+    ghost use Rattle.std.proofs.Common.{ap₂, sym};
+    ghost use Rattle.model.specs.Model.{seconds, padded};
+    ghost use Rattle.choose_offer.specs.Plan.{KeptPlan, kept_length};
+
+    ghost Value = { KeptPlan };
+
+    ghost view = { λ p. record { need = p.need; loss = p.loss; periods = take p.n p.periods } };
+
+    ghost invariant = { λ p. (p.n ≤ 8) × (p.periods ≡ padded (seconds 0) (take p.n p.periods)) };
+
+    ghost inverse = { λ d. record { need = d.need; loss = d.loss; n = length d.periods; periods = padded (seconds 0) d.periods } };
+
+    ghost inverse_ok = { λ a h. ap₂ (λ n ps. record { need = a.need; loss = a.loss; n = n; periods = ps }) (kept_length a.n a.periods h.0 h.1) (sym h.1) };
+}
+
+impl Plan {
+    #[tactic(auto, using(crate::proofs::Kept::kept_padded))]
+    fn new(need: PagesPerHour, loss: u64, periods: &[Seconds]) -> Plan
+        requires { length periods.now ≤ 8 }
+        ensures { result ≡ record { need = need; loss = loss; periods = periods.now } }
+    {
+        let n = periods.len();
+        let mut kept = [Seconds(0); 8];
+        kept[..n].copy_from_slice(periods);
+        Plan {
+            need,
+            loss,
+            n,
+            periods: kept,
         }
     }
-    walk::reaches(spans, i, n, t)
-}
 
-// One whole plan: kept if it fits the budget and has less loss than the best, or the same loss and less need.
-#[tactic(auto, using(crate::proofs::Stored::offer_cases), unfolding(step::specs::Step::need_at))]
-pub fn offer(
-    n: usize,
-    budget: PagesPerHour,
-    t: Seconds,
-    written: u64,
-    lost: u64,
-    periods: &[u32; 8],
-    best: &mut [u64; 10],
-)
-    requires need_fits { NeedFits written t }
-    requires lost_lt_no_plan { lost < no_plan }
-    requires sizes { Sizes n periods.now best.old }
-    ensures { Offers n budget t written lost periods.now best.old best.new }
-{
-    let exact = step::exact_need(written, t);
-    let need = step::rounded_up(exact);
-    if budget.0 < need.0 {
-        return;
+    pub fn loss(&self) -> u64
+        ensures { result ≡ self.now.loss }
+    {
+        self.loss
     }
-    if lost < best[LOSS] {
-        keep(n, need, lost, periods, best);
-        return;
+
+    pub fn periods(&self) -> &[Seconds]
+        ensures { result.now ≡ self.now.periods }
+    {
+        &self.periods[..self.n]
     }
-    if best[LOSS] < lost {
-        return;
-    }
-    if (need.0 as u64) < best[NEED] {
-        keep(n, need, lost, periods, best);
+
+    // The periods, and zeros behind them.
+    pub fn padded(&self) -> [Seconds; 8]
+        ensures { result ≡ padded (seconds 0) self.now.periods }
+    {
+        self.periods
     }
 }
 
-// A plan becomes the best.
-fn keep(n: usize, need: PagesPerHour, loss: u64, periods: &[u32; 8], best: &mut [u64; 10])
-    requires { Sizes n periods.now best.old }
-    ensures { BestIs n need loss periods.now best.new }
-{
-    let mut k: usize = 0;
-    while k < n {
-        let t = periods[k];
-        best[k] = model::wide(Seconds(t));
-        k += 1;
+// The best plan found so far, or none yet.
+#[derive(Drop)]
+pub struct Best {
+    plan: Option<Plan>,
+}
+
+impl Model for Best {
+    ghost use Rattle.choose_offer.specs.Found.{Found};
+    ghost use Rattle.choose_offer.specs.Plan.{found_in};
+
+    ghost Value = { Found };
+
+    ghost view = { λ b. found_in b.plan };
+}
+
+impl Best {
+    // Nothing is found yet.
+    pub fn new() -> Best
+        ensures { result ≡ nothing }
+    {
+        Best { plan: None }
     }
-    best[NEED] = need.0 as u64;
-    best[LOSS] = loss;
+
+    pub fn plan(&self) -> Option<Plan>
+        ensures { found_in result ≡ self.now }
+    {
+        self.plan
+    }
+
+    // Whether less is lost, or as much and less needed, than by the best.
+    #[tactic(auto, unfolding(crate::specs::Found::beats))]
+    fn is_beaten_by(&self, need: PagesPerHour, loss: u64) -> bool
+        ensures { result ≡ beats need.0 loss self.now }
+    {
+        let Some(best) = &self.plan else {
+            return true;
+        };
+        (loss, need) < (best.loss, best.need)
+    }
+}
+
+// A walk keeps the best that fits its budget.
+impl Keep for Best {
+    ghost Good = { AnyFound };
+
+    ghost update = { λ budget. pick budget.0 };
+
+    ghost absorbs = { λ budget. pick_absorbs budget.0 };
+
+    #[tactic(auto, using(crate::proofs::Updates::kept_at_floors))]
+    fn is_done(&self, floor: u64) -> bool {
+        self.plan.is_some_and(|best| best.loss < floor)
+    }
+
+    #[tactic(auto, using(crate::proofs::Updates::kept_at_floors))]
+    fn could_take(&self, budget: PagesPerHour, need_floor: PagesPerHour, floor: u64) -> bool {
+        need_floor <= budget && self.is_beaten_by(need_floor, floor)
+    }
+
+    #[tactic(auto, unfolding(crate::specs::Found::pick))]
+    fn offer(&mut self, budget: PagesPerHour, need: ExactNeed, loss: u64, periods: &[Seconds]) {
+        let rounded = step::rounded_up(need);
+        if rounded <= budget && self.is_beaten_by(rounded, loss) {
+            self.plan = Some(Plan::new(rounded, loss, periods));
+        }
+    }
 }

@@ -1,4 +1,5 @@
--- Going through all permitted lists in order, what is had is no worse than all that went before; at the end it is the best.
+-- Going through all permitted lists in order, what is had is no worse than all that went before; at the end it is the
+-- best.
 -- Assumes nothing.
 use mathlib.Core.Path.{◌≡◌, refl, sym, ◌∙◌, subst}
 use mathlib.Core.Logic.{⊎_elim}

@@ -1,164 +1,168 @@
--- The loop of the least need's walk, turn by turn: what is had is what the walk from the present multiple down would start from.
+-- The loop of the least need's walk, turn by turn: what is had is what the walk from the present multiple down would
+-- start from.
 -- Assumes nothing.
 use mathlib.Core.Path.{◌≡◌, sym, ◌∙◌, ap, subst}
 use mathlib.Core.List.{List, [], ◌∷◌, ◌++◌}
-use Prim.Native.Nat.{ℕ, ◌+◌, ◌*◌, ◌-◌, ◌/◌, ◌%◌, ◌≤◌, ◌<◌, min, zero-le}
+use Prim.Native.Nat.{ℕ, ◌+◌, ◌*◌, ◌-◌, ◌/◌, ◌%◌, ◌≤◌, ◌<◌, min, max, zero-le}
 use native.Mathlib.Omega.{arith}
-use native.Mathlib.Decide.{ℕ_discrete}
-use native.Mathlib.Nat.{le_refl, le_trans, le-div_iff_mul-le, div-mul-le_self, mul-mod_left}
-use lib.ListN.{get_or}
-use borrow.Author.Tests.{eq-eqb, ne_eqb}
+use native.Mathlib.Nat.{le_trans, le-div_iff_mul-le, div-mul-le_self, mul-mod_left}
+use Rattle.std.specs.Prelude.{Option}
 use Rattle.model.specs.declared.Seconds.{Seconds}
 use Rattle.model.specs.declared.PagesPerHour.{PagesPerHour}
 use Rattle.model.specs.declared.Job.{Job}
-use Rattle.model.specs.Model.{seconds, pages_per_hour, job_loss}
-use Rattle.model.specs.Most.{most_need}
-use Rattle.step.specs.Step.{carried, need_at}
-use Rattle.step.proofs.Fits.{need_to}
+use Rattle.model.specs.Model.{seconds, job_loss}
+use Rattle.model.specs.Most.{most_pages, most_need}
+use Rattle.model.proofs.Rounding.{round_up_above, multiple_is, multiple_above, split_product}
+use Rattle.step.specs.Step.{load, carried, need_at, NeedFits}
 use Rattle.walk.specs.declared.Tries.{Tries}
+use Rattle.walk.specs.declared.Numbers.{Numbers}
+use Rattle.walk.specs.declared.Begun.{Begun}
 use Rattle.walk.specs.Walk.{need_floor, node, next, walk_by, walk_down, walk_down_from}
-use Rattle.choose_walk.specs.Least.{none, least, less_need}
-use Rattle.walk.specs.Arrays.{Held}
-use Rattle.walk.specs.Steps.{tries_held, Unreached, ReadyForCut}
-use Rattle.choose_walk.specs.Steps.{ReadyForNeed, no_need, least_in, Lessens, LessensNothing}
-use Rattle.model.proofs.Rounding.{round_up_above, multiple_is, split_product}
-use Rattle.model.proofs.Rounding.{multiple_above}
-use Rattle.walk.proofs.Falling.{down_lists}
+use Rattle.walk.specs.Numbers.{numbers_at, Held}
+use Rattle.walk.specs.Steps.{tries_held, Ends, Unreached, Ready}
 use Rattle.walk.specs.Laws.{Keeps}
+use Rattle.walk.proofs.Falling.{down_lists}
 use Rattle.walk.proofs.Walk.{walk_cut}
 use Rattle.walk.proofs.Loops.{down_opens, down_takes, down_ends}
-use Rattle.walk.proofs.Held.{held_open, held_none, held_next, held_valid}
-use Rattle.walk.proofs.Cuts.{need_floor_is, unreached, ready_need, need_floor_to, ready_longest, next_ready}
+use Rattle.walk.proofs.Held.{Opened, held_open, held_none, held_next, held_valid}
+use Rattle.walk.proofs.Cuts.{need_floor_is, unreached, more_begun, ready_need, ready_own, ready_tries, next_ready, next_floor}
+use Rattle.choose_walk.specs.Least.{less_need, least}
+use Rattle.choose_walk.specs.Steps.{least_in, Lessens}
 
--- a need that is one, and one that is none
-pub some_least : (q : PagesPerHour) → (q.0 ≡ no_need → ⊥) → least_in q ≡ least q.0
-unfolding least_in
-some_least q some = rw (ne_eqb q.0 no_need some)
+-- the least of two needs, where one is no more
+pub least_kept : (q k : ℕ) → k ≤ q → least (min q k) ≡ least k
+least_kept q k h = ap least (let e : min q k ≡ k = omega arith in e)
 
-pub no_least : (q : PagesPerHour) → q.0 ≡ no_need → least_in q ≡ none
-unfolding least_in
-no_least q e = rw (eq-eqb q.0 no_need e)
-
--- the smaller of two is what the update makes of them
-less_need_lem : (q l : ℕ) (ts : List Seconds) (had r : PagesPerHour) → q ≤ most_need → r.0 ≡ min q had.0 → least_in r ≡ less_need q l ts (least_in had)
-unfolding less_need
-less_need_lem q l ts had r small e = go (ℕ_discrete had.0 no_need)
-  where
-    go : Dec (had.0 ≡ no_need) → least_in r ≡ less_need q l ts (least_in had)
-    go (yes no-need) =
-        let is : r.0 ≡ q = omega arith in
-        rw (no_least had no-need) (some_least r (λ d. omega arith) ∙ ap least is)
-    go (no some) = rw (some_least had some) (some_least r (λ d. omega arith) ∙ ap least e)
-
--- which need floor lets what is had stand
-keeps_least : {m k : ℕ} → m ≤ k → Keeps less_need (least m) k 0
-unfolding less_need
-keeps_least {m} h q l ts k≤ l≤ = let e : min q m ≡ m = omega arith in ap least e
-
-module _ {spans rates : List ℕ} {i n : ℕ} {t : Seconds} {written : ℕ} (r : ReadyForCut spans rates i n t written) (had : PagesPerHour) where
-  -- the cut by the need floor
-  pub floor_not_less : had.0 ≤ need_at written t + get_or rates (8 + i) 0 → LessensNothing spans rates i n t written had
-  floor_not_less over pages stiffnesses g js lost ts h =
-      let to = need_floor_to r.ready in
-      let is = need_floor_is g js t written h in
-      let some = some_least had (λ e. omega arith) in
-      subst (λ a. walk_down less_need js (node t g written lost ts) a ≡ a) (sym some)
-      (walk_cut down_lists less_need (least had.0) js (node t g written lost ts) (held_valid js h) r.ready.from (need_floor g written t js) 0 (le_refl _) zero-le (keeps_least (omega arith)))
-
-  -- the cut by reach
-  pub unreached_not_less : Unreached spans i n t → LessensNothing spans rates i n t written had
-  unreached_not_less u pages stiffnesses g js lost ts h = unreached down_lists less_need (least_in had) js (node t g written lost ts) r.ready.from h u
-
--- Before each turn: t is the period whose turn it is, and the walk from it down, begun with what is had, ends as the whole walk does.
-pub record Down (spans pages rates : List ℕ) (i n : ℕ) (step : Seconds) (written : ℕ) (had now : PagesPerHour) (t : Seconds) : Type 0 where
-  pub multiple : t.0 % step.0 ≡ 0
-  pub below : t.0 ≤ get_or spans (8 + i) 0
-  pub is : (stiffnesses : List ℕ) (g : ℕ) (j : Job) (js : List Job) (lost : ℕ) (ts : List Seconds) → Held spans pages rates stiffnesses i n g (j ∷ js) →
-      walk_down_from less_need j js (node step g written lost ts) t (least_in now) ≡ walk_down less_need (j ∷ js) (node step g written lost ts) (least_in had)
-
-module _ {spans pages rates : List ℕ} {i n : ℕ} {step : Seconds} {written : ℕ} (r : ReadyForNeed spans pages rates i n step written) where
-  -- the last job has its period: one plan, its need
-  pub down_leaf : i ≡ n → (had q r : PagesPerHour) → q ≡ pages_per_hour (need_at written step) → r.0 ≡ min q.0 had.0 → Lessens spans pages rates i n step written had r
-  unfolding walk_by
-  down_leaf e had q m is smaller stiffnesses g js lost ts h =
-      let empty : js ≡ [] = held_none js (subst (λ (x : ℕ). Held spans pages rates stiffnesses x n g js) e h) in
-      let small = need_to (ready_need r.ready) in
-      let at : q.0 ≡ need_at written step = ap (λ (x : PagesPerHour). x.0) is in
-      rw empty (less_need_lem (need_at written step) lost ts had m small (rw (← at) smaller))
-
-  -- the loop opens at the last period that may be tried
-  module _ {tries : Tries} (told : tries ≡ tries_held spans i step) where
-    pub down_starts : (had : PagesPerHour) → Down spans pages rates i n step written had had tries.last
-    down_starts had = rw told (record { multiple = mul-mod_left _ _; below = div-mul-le_self _ _; is = opens })
-      where
-        opens : (stiffnesses : List ℕ) (g : ℕ) (j : Job) (js : List Job) (lost : ℕ) (ts : List Seconds) → Held spans pages rates stiffnesses i n g (j ∷ js) →
-            walk_down_from less_need j js (node step g written lost ts) (tries_held spans i step).last (least_in had) ≡ walk_down less_need (j ∷ js) (node step g written lost ts) (least_in had)
-        opens stiffnesses g j js lost ts h = rw h.jobs.0.longest (sym (down_opens less_need j js (node step g written lost ts) (least_in had)))
-
-    -- and ends below the first
-    pub down_done : i < n → {had now : PagesPerHour} {t : Seconds} → Down spans pages rates i n step written had now t → t.0 < tries.first.0 → Lessens spans pages rates i n step written had now
-    down_done less {had} {now} {t} d past stiffnesses g js lost ts h =
-        let o = held_open js less h in
-        let p = node step g written lost ts in
-        let k : Held spans pages rates stiffnesses i n g (o.job ∷ o.rest) = subst (Held spans pages rates stiffnesses i n g) o.is h in
-        rw o.is
-        (sym (down_ends less_need o.job o.rest p t (least_in now) r.ready.from (rw (told, o.holds.shortest) at past)) ∙ d.is stiffnesses g o.job o.rest lost ts k)
+-- Before each turn: t is the period whose turn it is, and the walk from it down, begun with what is had, ends as the
+-- whole walk does.
+pub record Down (m : Numbers) (b : Begun) (had now : Option PagesPerHour) (t : Seconds) : Type 0 where
+  pub multiple : t.0 % b.last.0 ≡ 0
+  pub below : t.0 ≤ (numbers_at m b.jobs).hi.0
+  pub is : (g : ℕ) (j : Job) (js : List Job) (lost : ℕ) (ts : List Seconds) → Held m b.jobs g (j ∷ js) →
+      walk_down_from less_need j js (node b.last g b.written lost ts) t (least_in now) ≡ walk_down less_need (j ∷ js) (node b.last g b.written lost ts) (least_in had)
 
 -- A turn of the loop: what stands before it, and a period that may be tried.
-pub record DownTurn (spans pages rates : List ℕ) (i n : ℕ) (step : Seconds) (written : ℕ) (had now : PagesPerHour) (t : Seconds) : Type 0 where
-  pub ready : ReadyForNeed spans pages rates i n step written
-  pub less : i < n
-  pub down : Down spans pages rates i n step written had now t
-  pub from : (tries_held spans i step).first.0 ≤ t.0
+pub record DownTurn (m : Numbers) (b : Begun) (tries : Tries) (had now : Option PagesPerHour) (t : Seconds) : Type 0 where
+  pub ready : Ready m b
+  pub less : b.jobs < m.n
+  pub told : tries ≡ tries_held (numbers_at m b.jobs) b.last
+  pub down : Down m b had now t
+  pub from : tries.first.0 ≤ t.0
 
-module _ {spans pages rates : List ℕ} {i n : ℕ} {step : Seconds} {written : ℕ} {had now : PagesPerHour} {t : Seconds} (d : DownTurn spans pages rates i n step written had now t) where
-  above : get_or spans i 0 ≤ t.0
-  above = le_trans (round_up_above (get_or spans i 0) d.ready.ready.from) d.from
+module _ {m : Numbers} {b : Begun} (r : Ready m b) where
+  -- the last job has its period: one plan, its need
+  pub down_leaf : b.jobs ≡ m.n → (had after : Option PagesPerHour) → ((l : ℕ) (ts : List Seconds) → least_in after ≡ less_need (need_at b.written b.last) l ts (least_in had)) → Lessens m b had after
+  unfolding walk_by
+  down_leaf e had after one g js lost ts h =
+      let none : js ≡ [] = held_none js (subst (λ (x : ℕ). Held m x g js) e h) in
+      rw none (one lost ts)
 
-  pub down_to : t.0 ≤ 3600
-  down_to = le_trans d.down.below (ready_longest d.ready.ready d.less)
+  -- the loop opens at the last period that may be tried
+  module _ {tries : Tries} (told : tries ≡ tries_held (numbers_at m b.jobs) b.last) where
+    pub down_starts : (had : Option PagesPerHour) → Down m b had had tries.last
+    down_starts had = rw told (record { multiple = mul-mod_left _ _; below = div-mul-le_self _ _; is = opens })
+      where
+        opens : (g : ℕ) (j : Job) (js : List Job) (lost : ℕ) (ts : List Seconds) → Held m b.jobs g (j ∷ js) →
+            walk_down_from less_need j js (node b.last g b.written lost ts) (tries_held (numbers_at m b.jobs) b.last).last (least_in had) ≡ walk_down less_need (j ∷ js) (node b.last g b.written lost ts) (least_in had)
+        opens g j js lost ts h = rw h.jobs.0.longest (sym (down_opens less_need j js (node b.last g b.written lost ts) (least_in had)))
 
-  pub down_room : step.0 ≤ t.0
-  down_room =
-      let o = held_open d.ready.ready.js d.less d.ready.ready.held in
-      let v = o.holds.valid in
-      let lo = o.holds.shortest in
-      let on = above in
-      multiple_above step.0 t.0 (omega arith) d.down.multiple
+    -- and ends below the first
+    pub down_done : b.jobs < m.n → {had now : Option PagesPerHour} {t : Seconds} → Down m b had now t → t.0 < tries.first.0 → Lessens m b had now
+    down_done less {had} {now} {t} d past g js lost ts h =
+        let o = held_open js less h in
+        let p = node b.last g b.written lost ts in
+        let k : Held m b.jobs g (o.job ∷ o.rest) = subst (Held m b.jobs g) o.is h in
+        rw o.is (sym (down_ends less_need o.job o.rest p t (least_in now) r.from (rw (told, o.holds.shortest) at past)) ∙ d.is g o.job o.rest lost ts k)
 
-  -- the node below this period
-  pub down_next : ReadyForNeed spans pages rates (i + 1) n t (carried written step t (get_or pages i 0))
-  down_next = record { stiffnesses = d.ready.stiffnesses; ready = next_ready d.ready.ready d.less t d.down.multiple above d.down.below zero-le }
+module _ {m : Numbers} {b : Begun} {tries : Tries} {had now : Option PagesPerHour} {t : Seconds} (d : DownTurn m b tries had now t) where
+  from_held : (tries_held (numbers_at m b.jobs) b.last).first.0 ≤ t.0
+  from_held = rw d.told at d.from
 
-  pub down_cut : ReadyForCut spans rates (i + 1) n t (carried written step t (get_or pages i 0))
-  down_cut = record { pages = pages; stiffnesses = down_next.stiffnesses; ready = down_next.ready }
+  above : (numbers_at m b.jobs).lo.0 ≤ t.0
+  above = le_trans (round_up_above (numbers_at m b.jobs).lo.0 d.ready.from) from_held
 
-  -- one turn: what the walk below this period makes of what is had
-  pub down_turn : (m : PagesPerHour) → Lessens spans pages rates (i + 1) n t (carried written step t (get_or pages i 0)) now m → Down spans pages rates i n step written had m (seconds (t.0 - step.0))
-  down_turn m lessens =
-      let below = d.down.below in
-      record { multiple = multiple; below = omega arith; is = turned }
+  opened : Opened m b.jobs d.ready.greatest d.ready.js
+  opened = held_open d.ready.js d.less d.ready.held
+
+  t-from : 1 ≤ t.0
+  t-from = omega (arith, above, opened.holds.shortest, opened.holds.valid)
+
+  down_to : t.0 ≤ 3600
+  down_to = omega (arith, d.down.below, ready_tries d.ready d.less)
+
+  pub down_room : b.last.0 ≤ t.0
+  down_room = multiple_above b.last.0 t.0 t-from d.down.multiple
+
+  pub down_falls : t.0 - b.last.0 < t.0
+  down_falls = omega (arith, down_room, d.ready.from)
+
+  -- the pages carried on
+  pub down_carry : NeedFits b.written b.last × (t.0 ≤ 3600) × ((numbers_at m b.jobs).load ≤ most_pages)
+  down_carry = (ready_need d.ready, down_to, ready_own d.ready d.less)
+
+  pub down_ends_at : Ends m (b.jobs + 1) t
+  down_ends_at = record { upto = omega (arith, d.less); most = d.ready.held.most; from = t-from }
+
+  -- The walk below this period takes what is had to `after`.
+  abbrev Below : Option PagesPerHour → Type 0
+  Below after = (g : ℕ) (j : Job) (js : List Job) (lost : ℕ) (ts : List Seconds) → Held m b.jobs g (j ∷ js) → walk_down less_need js (next j (node b.last g b.written lost ts) t) (least_in now) ≡ least_in after
+
+  -- one turn
+  turn : {after : Option PagesPerHour} → Below after → Down m b had after (seconds (t.0 - b.last.0))
+  turn {after} below = record { multiple = multiple; below = omega (arith, d.down.below); is = turned }
     where
-      multiple : (t.0 - step.0) % step.0 ≡ 0
+      multiple : (t.0 - b.last.0) % b.last.0 ≡ 0
       multiple =
-          let whole : t.0 ≡ t.0 / step.0 * step.0 = multiple_is t.0 step.0 d.down.multiple in
-          let pos = d.ready.ready.from in
+          let whole : t.0 ≡ t.0 / b.last.0 * b.last.0 = multiple_is t.0 b.last.0 d.down.multiple in
+          let pos = d.ready.from in
           let room = down_room in
-          let one : 1 ≤ t.0 / step.0 = (le-div_iff_mul-le pos).1 (omega arith) in
-          let parts : t.0 / step.0 * step.0 ≡ 1 * step.0 + (t.0 / step.0 - 1) * step.0 = split_product step.0 one in
-          let e : t.0 - step.0 ≡ (t.0 / step.0 - 1) * step.0 = omega arith in
+          let one : 1 ≤ t.0 / b.last.0 = (le-div_iff_mul-le pos).1 (omega arith) in
+          let parts : t.0 / b.last.0 * b.last.0 ≡ 1 * b.last.0 + (t.0 / b.last.0 - 1) * b.last.0 = split_product b.last.0 one in
+          let e : t.0 - b.last.0 ≡ (t.0 / b.last.0 - 1) * b.last.0 = omega arith in
           rw e (mul-mod_left _ _)
 
-      turned : (stiffnesses : List ℕ) (g : ℕ) (j : Job) (js : List Job) (lost : ℕ) (ts : List Seconds) → Held spans pages rates stiffnesses i n g (j ∷ js) →
-          walk_down_from less_need j js (node step g written lost ts) (seconds (t.0 - step.0)) (least_in m) ≡ walk_down less_need (j ∷ js) (node step g written lost ts) (least_in had)
-      turned stiffnesses g j js lost ts h =
-          let p = node step g written lost ts in
-          let after = lessens stiffnesses _ js (lost + job_loss j t) (ts ++ (t ∷ [])) (held_next j js h) in
-          let own : walk_down less_need js (next j p t) (least_in now) ≡ least_in m = sym (rw h.jobs.0.for_need at after) in
-          ap (walk_down_from less_need j js p (seconds (t.0 - step.0))) (sym own)
-          ∙ sym (down_takes less_need j js p t (least_in now) d.ready.ready.from down_room (rw h.jobs.0.shortest at d.from))
-          ∙ d.down.is stiffnesses g j js lost ts h
+      turned : (g : ℕ) (j : Job) (js : List Job) (lost : ℕ) (ts : List Seconds) → Held m b.jobs g (j ∷ js) →
+          walk_down_from less_need j js (node b.last g b.written lost ts) (seconds (t.0 - b.last.0)) (least_in after) ≡ walk_down less_need (j ∷ js) (node b.last g b.written lost ts) (least_in had)
+      turned g j js lost ts h =
+          let p = node b.last g b.written lost ts in
+          ap (walk_down_from less_need j js p (seconds (t.0 - b.last.0))) (sym (below g j js lost ts h))
+          ∙ sym (down_takes less_need j js p t (least_in now) d.ready.from down_room (rw h.jobs.0.shortest at from_held))
+          ∙ d.down.is g j js lost ts h
 
-  -- a walk that would leave what is had is not made
-  pub down_skip : LessensNothing spans rates (i + 1) n t (carried written step t (get_or pages i 0)) now → Down spans pages rates i n step written had now (seconds (t.0 - step.0))
-  down_skip nothing = down_turn now (λ stiffnesses g js lost ts h. sym (nothing pages stiffnesses g js lost ts h))
+  -- a later interval holds no multiple of this period
+  pub down_unreached : Unreached m (b.jobs + 1) t → Down m b had now (seconds (t.0 - b.last.0))
+  down_unreached far = turn {after = now} (λ g j js lost ts h. unreached down_lists less_need (least_in now) js (next j (node b.last g b.written lost ts) t) t-from (held_next j js h) far)
+
+  module _ {written : ℕ} (carries : written ≡ carried b.written b.last t (numbers_at m b.jobs).load) where
+    -- the part of a plan with this job
+    pub down_next : Ready m (more_begun b t written b.lost)
+    down_next = rw carries (next_ready d.ready d.less t d.down.multiple above d.down.below (omega (arith, d.ready.bounded.lost_to)))
+
+    -- what the need floor asks
+    pub down_need : NeedFits written t
+    down_need = ready_need down_next
+
+    pub down_need_to : need_at written t + (numbers_at m b.jobs).later.0 ≤ most_need
+    down_need_to = rw carries (next_floor d.ready d.less t d.down.multiple above d.down.below)
+
+    -- the pages with a job at hand
+    pages : {g : ℕ} {j : Job} {js : List Job} → Held m b.jobs g (j ∷ js) → written ≡ carried b.written b.last t (load g j)
+    pages h = carries ∙ ap (λ (x : ℕ). carried b.written b.last t x) h.jobs.0.for_need
+
+    -- what the walk below this period makes of what is had
+    pub down_turn : {after : Option PagesPerHour} → Lessens m (more_begun b t written b.lost) now after → Down m b had after (seconds (t.0 - b.last.0))
+    down_turn {after} lessens = turn below
+      where
+        below : Below after
+        below g j js lost ts h = sym (rw (pages h) at (lessens _ js (lost + job_loss j t) (ts ++ (t ∷ [])) (held_next j js h)))
+
+    -- what is had stands against the need floor: the walk is not made
+    pub down_kept : Keeps less_need (least_in now) (need_at written t + (numbers_at m b.jobs).later.0) 0 → Down m b had now (seconds (t.0 - b.last.0))
+    down_kept keeps = turn {after = now} below
+      where
+        below : Below now
+        below g j js lost ts h =
+            let valid = held_valid js (held_next j js h) in
+            let least = need_at written t + (numbers_at m b.jobs).later.0 in
+            let is : least ≡ need_floor (max g j.metadata) (carried b.written b.last t (load g j)) t js = need_floor_is h.jobs.0 t written ∙ ap (λ (x : ℕ). need_floor (max g j.metadata) x t js) (pages h) in
+            walk_cut down_lists less_need (least_in now) js (next j (node b.last g b.written lost ts) t) valid t-from least 0 (omega arith) zero-le keeps

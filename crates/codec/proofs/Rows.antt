@@ -16,13 +16,13 @@ use Rattle.codec.specs.Layout.{byte_widths}
 use Rattle.codec.specs.RowWords.{row_bytes, with_row, words_at}
 use Rattle.codec.proofs.Packing.{length_unpack}
 
-bits_append : (vs us : List ℕ) → bits (vs ++ us) ≡ bits vs + bits us
+pub bits_append : (vs us : List ℕ) → bits (vs ++ us) ≡ bits vs + bits us
 unfolding bits
 bits_append [] us = omega arith
 bits_append (v ∷ vs) us = omega (arith, bits_append vs us)
 
 -- cutting by widths one after the other
-unpack_append : (vs us : List ℕ) (x : ℕ) → x < 2 ^ bits (vs ++ us) → unpack (vs ++ us) x ≡ unpack vs (x / 2 ^ bits us) ++ unpack us (x % 2 ^ bits us)
+pub unpack_append : (vs us : List ℕ) (x : ℕ) → x < 2 ^ bits (vs ++ us) → unpack (vs ++ us) x ≡ unpack vs (x / 2 ^ bits us) ++ unpack us (x % 2 ^ bits us)
 unfolding unpack bits
 unpack_append [] us x h = ap (unpack us) (sym (mod-eq_of_lt h))
 unpack_append (v ∷ vs) us x h =

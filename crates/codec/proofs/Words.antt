@@ -1,83 +1,53 @@
--- Eight bytes and one number, a byte at a time: the step of the loop that reads and of the loop that writes.
+-- Eight bytes and one number: the library's words for them are packing by eight widths of eight bits.
 -- Assumes nothing.
-use mathlib.Core.Path.{◌≡◌, refl, sym, ◌∙◌, ap}
-use mathlib.Core.List.{List, [], ◌∷◌, ◌++◌}
-use Prim.Native.Nat.{ℕ, suc, ◌+◌, ◌*◌, ◌-◌, ◌/◌, ◌%◌, ◌^◌, ◌≤◌, ◌<◌}
-use native.Mathlib.Nat.{add-zero, div-one, mod-eq_of_lt, lt_of_lt_of_le}
-use native.Mathlib.Numerals.{add-one}
+use mathlib.Core.Path.{◌≡◌, refl, sym, ◌∙◌, ap, ap₂}
+use mathlib.Core.List.{List, ◌∷◌, ◌++◌}
+use Prim.Native.Nat.{ℕ, zero, suc, ◌+◌, ◌*◌, ◌-◌, ◌/◌, ◌%◌, ◌^◌, ◌<◌}
+use native.Mathlib.Nat.{div-one, mod-eq_of_lt}
 use native.Mathlib.Omega.{arith}
-use lib.Pow.{pow-add, pow_mono, shr-shr}
-use lib.ListN.{length, get_or, take, drop, set, replicate, length-drop, length-set, take-append-drop}
-use lib.Seq.{take-suc, get_or-drop, length-take-le, set_at, append_snoc}
-use Rattle.codec.specs.Packing.{pack, unpack}
-use Rattle.codec.proofs.Packing.{pack_snoc, unpack_low}
+use lib.Pow.{pow-add}
+use lib.ListN.{length, take, drop, replicate}
+use lib.Seq.{drop-drop}
+use borrow.Rule.Slice.PartMut.{put_mid}
+use Rattle.std.specs.Int.{w64, byte_at, bytes_high_first, to_be_bytes, from_be_bytes}
+use Rattle.std.proofs.Math.Nat.{pow-suc}
+use Rattle.model.specs.Model.{entries}
+use Rattle.model.proofs.Entries.{entries_all}
+use Rattle.codec.specs.Packing.{bits, pack, unpack}
+use Rattle.codec.specs.Layout.{byte_widths}
+use Rattle.codec.proofs.Packing.{unpack_low}
 
--- reading: the number of one byte more
-pub word_step : (s : List ℕ) (at k x b : ℕ) → at + 8 ≤ length s → k < 8
-    → x ≡ pack (replicate k 8) (take k (drop at s)) → b ≡ get_or s (at + k) 0
-    → x * 256 + b ≡ pack (replicate (k + 1) 8) (take (k + 1) (drop at s))
-word_step s at k x b room h e f =
-    let rest = drop at s in
-    let here : k < length rest = omega (arith, length-drop at s) in
-    let byte : get_or rest k 0 ≡ b = get_or-drop at s k 0 ∙ sym f in
-    let grown : take (suc k) rest ≡ take k rest ++ (b ∷ []) = take-suc rest k 0 here ∙ ap (λ (y : ℕ). take k rest ++ (y ∷ [])) byte in
-    let packed = pack_snoc k (take k rest) b (length-take-le k rest (omega arith)) in
-    rw (e, add-one k, grown, packed)
+-- reading
+each_byte : (bytes : List ℕ) → from_be_bytes w64 bytes ≡ pack (byte_widths 8) (entries 0 bytes 0 8)
+unfolding pack bits entries
+each_byte bytes = omega arith
 
-pub word_bound : (k x b : ℕ) → x < 2 ^ (8 * k) → b < 256 → x * 256 + b < 2 ^ (8 * (k + 1))
-word_bound k x b hx hb =
-    let e : 8 * (k + 1) ≡ 8 + 8 * k = omega arith in
-    rw (e, pow-add 2 8 (8 * k)) (omega arith)
+pub number_of_bytes : (bytes : List ℕ) → length bytes ≡ 8 → from_be_bytes w64 bytes ≡ pack (byte_widths 8) bytes
+number_of_bytes bytes size = each_byte bytes ∙ ap (pack (byte_widths 8)) (entries_all 0 bytes size)
 
--- a number of fewer than eight bytes has room for one more
-pub word_room : (k x : ℕ) → x < 2 ^ (8 * k) → k < 8 → x < 2 ^ 56
-word_room k x hx h = lt_of_lt_of_le hx (pow_mono {j = 56} (omega arith))
+-- writing
+byte_weight : (k : ℕ) → 256 ^ k ≡ 2 ^ (8 * k)
+byte_weight zero = refl
+byte_weight (suc k) =
+    let e : 8 * suc k ≡ 8 + 8 * k = omega arith in
+    rw e (omega (arith, pow-suc 256 k, pow-add 2 8 (8 * k), byte_weight k))
 
--- writing, with k bytes still to come: the bytes from the k-th on stand, and x holds those before it
-pub record Stored (old : List ℕ) (at word : ℕ) (out : List ℕ) (x k : ℕ) : Type 0 where
-  pub upto : k ≤ 8
-  pub same : length out ≡ length old
-  pub left : x ≡ word / 2 ^ (8 * (8 - k))
-  pub bytes : out ≡ take (at + k) old ++ (unpack (replicate (8 - k) 8) (word % 2 ^ (8 * (8 - k))) ++ drop (at + 8) old)
+byte_there : (k x : ℕ) → byte_at k x ≡ x / 2 ^ (8 * k) % 256
+byte_there zero x = ap (λ (n : ℕ). n % 256) (sym (div-one x))
+byte_there (suc k) x = ap (λ (n : ℕ). x / n % 256) (byte_weight (suc k))
 
-pub nothing_stored : (old : List ℕ) (at word : ℕ) → Stored old at word old word 8
+low_bytes : (k x : ℕ) → bytes_high_first k x ≡ unpack (replicate k 8) (x % 2 ^ (8 * k))
 unfolding unpack
-nothing_stored old at word = record { upto = omega arith; same = refl; left = sym (div-one word); bytes = sym (take-append-drop (at + 8) old) }
+low_bytes zero x = refl
+low_bytes (suc k) x = ap₂ ◌∷◌ (byte_there k x) (low_bytes k x) ∙ sym (unpack_low k x)
 
-pub all_stored : (old : List ℕ) (at word : ℕ) (out : List ℕ) (x : ℕ) → word < 2 ^ 64 → Stored old at word out x 0
-    → out ≡ take at old ++ (unpack (replicate 8 8) word ++ drop (at + 8) old)
-all_stored old at word out x h s = rw (s.bytes, add-zero at, mod-eq_of_lt h)
+bytes_of_number : (x : ℕ) → x < 2 ^ 64 → to_be_bytes w64 x ≡ unpack (byte_widths 8) x
+bytes_of_number x h = low_bytes 8 x ∙ ap (unpack (byte_widths 8)) (mod-eq_of_lt h)
 
--- the m-th byte, when j stand behind it
-put_step : (old out : List ℕ) (at m j word : ℕ) → at + 8 ≤ length old → m + suc j ≡ 8
-    → out ≡ take (at + suc m) old ++ (unpack (replicate j 8) (word % 2 ^ (8 * j)) ++ drop (at + 8) old)
-    → set out (at + m) (word / 2 ^ (8 * j) % 256) ≡ take (at + m) old ++ (unpack (replicate (suc j) 8) (word % 2 ^ (8 * suc j)) ++ drop (at + 8) old)
-put_step old out at m j word room h e =
-    let next : at + suc m ≡ suc (at + m) = omega arith in
-    let here : at + m < length old = omega arith in
-    let rest = unpack (replicate j 8) (word % 2 ^ (8 * j)) ++ drop (at + 8) old in
-    let byte = get_or old (at + m) 0 in
-    let split : take (at + suc m) old ++ rest ≡ take (at + m) old ++ (byte ∷ rest) =
-    ap (λ (n : ℕ). take n old ++ rest) next
-    ∙ ap (λ (l : List ℕ). l ++ rest) (take-suc old (at + m) 0 here)
-    ∙ append_snoc (take (at + m) old) byte rest in
-    let put = word / 2 ^ (8 * j) % 256 in
-    ap (λ (l : List ℕ). set l (at + m) put) (e ∙ split)
-    ∙ set_at (take (at + m) old) byte rest put (at + m) (length-take-le (at + m) old (omega arith))
-    ∙ sym (ap (λ (l : List ℕ). take (at + m) old ++ (l ++ drop (at + 8) old)) (unpack_low j word))
-
-pub one_stored : (old : List ℕ) (at word : ℕ) (out : List ℕ) (x k : ℕ) → at + 8 ≤ length old → 0 < k → Stored old at word out x k
-    → Stored old at word (set out (at + (k - 1)) (x % 256)) (x / 256) (k - 1)
-one_stored old at word out x k room h s =
-    let j = 8 - k in
-    let now-left : k ≡ suc (k - 1) = omega arith in
-    let then-stored : 8 - (k - 1) ≡ suc j = omega arith in
-    let bits-more : 8 * suc j ≡ 8 * j + 8 = omega arith in
-    let behind = unpack (replicate j 8) (word % 2 ^ (8 * j)) ++ drop (at + 8) old in
-    let stands = s.bytes ∙ ap (λ (n : ℕ). take (at + n) old ++ behind) now-left in
-    record {
-      upto = omega arith;
-      same = length-set out (at + (k - 1)) (x % 256) ∙ s.same;
-      left = rw (then-stored, s.left, bits-more) (shr-shr word (8 * j) 8);
-      bytes = rw (then-stored, s.left) (put_step old out at (k - 1) j word room (omega arith) stands);
-    }
+-- the part that is overwritten has the number's bytes
+pub word_put : (old new : List ℕ) (at word : ℕ) → word < 2 ^ 64 → new ≡ to_be_bytes w64 word
+    → put_mid at (at + 8 - at) old new ≡ take at old ++ (unpack (byte_widths 8) word ++ drop (at + 8) old)
+word_put old new at word h e =
+    let size : at + 8 - at ≡ 8 = omega arith in
+    let rest = ap (λ (k : ℕ). drop k (drop at old)) size ∙ drop-drop 8 at old in
+    ap₂ (λ (l r : List ℕ). take at old ++ (l ++ r)) (e ∙ bytes_of_number word h) rest

@@ -1,23 +1,23 @@
 -- Which numbers stand for profiles, answers and verdicts where C lends and gets them. The public contracts of C's functions
 -- cite this. Assumes nothing.
 use mathlib.Core.List.{List, [], ◌∷◌, ◌++◌, map, flat_map}
-use Rattle.std.specs.Prelude.{ℕ, ◌+◌, ◌*◌, ◌-◌, ◌^◌, min, get_or}
+use Rattle.std.specs.Prelude.{Result, Ok, Err, ℕ, ◌+◌, ◌*◌, ◌-◌, ◌^◌, min, get_or}
 use Rattle.model.specs.declared.Seconds.{Seconds}
 use Rattle.model.specs.declared.ExactNeed.{ExactNeed}
 use Rattle.model.specs.declared.Job.{Job}
 use Rattle.model.specs.declared.Profile.{Profile}
-use Rattle.model.specs.declared.Verdict.{Verdict}
-use Rattle.model.specs.declared.Counted.{Counted}
-use Rattle.model.specs.Model.{seconds, no_job, entries, number_of, detail_of, if_sound}
+use Rattle.model.specs.declared.Refusal.{Refusal}
+use Rattle.model.specs.Model.{seconds, no_job, entries, number_of, detail_of}
 
 -- A verdict as one number: the refusal's number above 48 bits of detail. A detail that they do not hold, which no input brings about,
 -- is told as their greatest.
-unfoldable pub result_of : Verdict → ℕ
-result_of v = number_of v * 2 ^ 48 + min (detail_of v) (2 ^ 48 - 1)
+unfoldable pub result_of : {A : Type 0} → Result A Refusal → ℕ
+result_of r = number_of r * 2 ^ 48 + min (detail_of r) (2 ^ 48 - 1)
 
--- A count as one number, within 48 bits likewise, or the refusal beside it.
-unfoldable pub counted_of : Counted → ℕ
-counted_of c = if_sound c.verdict (min c.count (2 ^ 48 - 1)) (result_of c.verdict)
+-- A count as one number, within 48 bits likewise, or the refusal in its place.
+unfoldable pub counted_of : Result ℕ Refusal → ℕ
+counted_of (Ok count) = min count (2 ^ 48 - 1)
+counted_of (Err refusal) = result_of {A = ℕ} (Err refusal)
 
 -- The job whose five numbers stand from a place on: lo, hi, data, metadata, stiffness.
 abbrev pub job_in : List ℕ → ℕ → Job

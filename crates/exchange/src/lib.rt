@@ -7,25 +7,20 @@
 ghost use Rattle.std.specs.Prelude.{◌≡◌, ◌<◌};
 ghost use Rattle.exchange.specs.Numbers.{result_of, counted_of, job_in, profile_in, eight_periods_in};
 
-use model::{Counted, Job, Profile, Seconds, Verdict};
+use model::{Job, Profile, Refusal, Seconds, Verdict};
+
+// The greatest detail or count that is told: 48 bits hold no more.
+const MOST_DETAIL: u64 = 0xffff_ffff_ffff;
 
 // A profile from n and 40 numbers.
 pub fn profile(n: u32, jobs: &[u32; 40]) -> Profile
     ensures { result ≡ profile_in n jobs.now }
 {
-    Profile {
-        n,
-        jobs: [
-            job(jobs, 0),
-            job(jobs, 5),
-            job(jobs, 10),
-            job(jobs, 15),
-            job(jobs, 20),
-            job(jobs, 25),
-            job(jobs, 30),
-            job(jobs, 35),
-        ],
+    let mut eight = [Job::default(); 8];
+    for k in 0..8 {
+        eight[k] = job(jobs, 5 * k);
     }
+    Profile { n, jobs: eight }
 }
 
 // The job whose five numbers stand from `at` on.
@@ -43,35 +38,21 @@ pub fn job(jobs: &[u32; 40], at: usize) -> Job
 }
 
 // Eight numbers as periods.
-#[tactic(auto, unfolding(model::specs::Model::entries))]
 pub fn as_periods(periods: &[u32; 8]) -> [Seconds; 8]
     ensures { result ≡ eight_periods_in periods.now }
 {
-    [
-        Seconds(periods[0]),
-        Seconds(periods[1]),
-        Seconds(periods[2]),
-        Seconds(periods[3]),
-        Seconds(periods[4]),
-        Seconds(periods[5]),
-        Seconds(periods[6]),
-        Seconds(periods[7]),
-    ]
+    periods.map(Seconds)
 }
 
-// A count, or the refusal beside which it is 0, as one number.
-#[tactic(auto, using(model::proofs::Verdicts::sound_of_zero), unfolding(crate::specs::Numbers::counted_of, model::specs::Model::if_sound))]
-pub fn counted(c: Counted) -> u64
+// A count, or the refusal in its place, as one number.
+#[tactic(auto, unfolding(crate::specs::Numbers::counted_of, crate::specs::Numbers::result_of))]
+pub fn counted(c: Result<u64, Refusal>) -> u64
     ensures { result ≡ counted_of c }
 {
-    let v = c.verdict;
-    let Verdict::Sound = v else {
-        return result(v);
-    };
-    if 0xffff_ffff_ffff < c.count {
-        return 0xffff_ffff_ffff;
+    match c {
+        Ok(count) => count.min(MOST_DETAIL),
+        Err(refusal) => result(Err(refusal)),
     }
-    c.count
 }
 
 // A verdict as one number: the refusal's number above its detail.
@@ -79,9 +60,5 @@ pub fn counted(c: Counted) -> u64
 pub fn result(v: Verdict) -> u64
     ensures { result ≡ result_of v }
 {
-    let detail = refusal::detail(v);
-    if 0xffff_ffff_ffff < detail {
-        return (refusal::number(v) as u64) * 0x1_0000_0000_0000 + 0xffff_ffff_ffff;
-    }
-    (refusal::number(v) as u64) * 0x1_0000_0000_0000 + detail
+    u64::from(refusal::number(v)) * (MOST_DETAIL + 1) + refusal::detail(v).min(MOST_DETAIL)
 }

@@ -15,10 +15,8 @@ pub fn put_values(p: Profile, values: &mut [u32; 41])
     ensures { values.new ≡ sets values.old 0 (numbers_of p) }
 {
     values[0] = p.n;
-    let mut i: usize = 0;
-    while i < 8 {
+    for i in 0..8 {
         put_job(p.jobs[i], values, 1 + 5 * i);
-        i += 1;
     }
 }
 
@@ -38,12 +36,10 @@ pub fn put_job(j: Job, values: &mut [u32; 41], at: usize)
 pub fn put_answer(need: ExactNeed, loss: u64, periods: [Seconds; 8], answer: &mut [u64; 11])
     ensures { answer.new ≡ sets answer.old 0 (answer_of need loss periods) }
 {
-    answer[0] = need.whole.0 as u64;
-    answer[1] = need.remainder.0 as u64;
+    answer[0] = u64::from(need.whole.0);
+    answer[1] = u64::from(need.remainder.0);
     answer[2] = loss;
-    let mut k: usize = 0;
-    while k < 8 {
-        answer[3 + k] = model::wide(periods[k]);
-        k += 1;
+    for k in 0..8 {
+        answer[3 + k] = u64::from(periods[k]);
     }
 }

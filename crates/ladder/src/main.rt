@@ -13,10 +13,11 @@ fn main() {
     let mut input = [0u8; 66];
     let got = io::read_full(STDIN, &mut input);
     let mut table = [0u8; 65536];
-    let l = ladder_listing::prepare(&input[..got], &mut table);
+    let listing = ladder_listing::prepare(&input[..got], &mut table);
+    let last = listing.map_or(0, |l| l.rows);
     let mut text = [0u8; 80];
-    for k in 0..=l.rows {
-        let size = ladder_listing::line(l, &table, k, &mut text);
+    for k in 0..=last {
+        let size = ladder_listing::line(listing, &table, k, &mut text);
         if !io::write_all(STDOUT, &text[..size]) {
             return;
         }

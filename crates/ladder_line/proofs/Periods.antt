@@ -1,16 +1,17 @@
 -- Periods put one by one: each takes at most a space and four digits. Assumes nothing.
-use mathlib.Core.Path.{◌≡◌, refl, sym, ◌∙◌, ap, subst}
+use mathlib.Core.Path.{◌≡◌, refl, sym, ◌∙◌, ap}
 use mathlib.Core.List.{List, [], ◌∷◌, ◌++◌, append_assoc, append-nil}
 use Prim.Native.Nat.{ℕ, ◌+◌, ◌*◌, ◌≤◌, ◌<◌}
 use native.Mathlib.Nat.{zero-add, add-zero}
 use native.Mathlib.Numerals.{add-one}
 use native.Mathlib.Omega.{arith}
-use lib.ListN.{length, get_or}
+use lib.ListN.{length, get_or, take, length-take}
+use lib.Seq.{get_or-take}
 use Rattle.model.specs.declared.Seconds.{Seconds}
 use Rattle.model.specs.Model.{seconds, entries}
 use Rattle.model.proofs.Entries.{entries_snoc}
 use Rattle.ladder_line.specs.Lines.{spaced, spaced_periods}
-use Rattle.ladder_line.specs.Writing.{Puts}
+use Rattle.ladder_line.specs.Writing.{Puts, Printable}
 use Rattle.ladder_line.proofs.Decimals.{spaced_few}
 use Rattle.ladder_line.proofs.Putting.{put_then}
 
@@ -40,12 +41,26 @@ module _ (old : List ℕ) (at : ℕ) (periods : List Seconds) (n : ℕ) where
   unfolding spaced_periods entries
   no_period h = record { upto = omega arith; puts = record { place = sym (add-zero at); room = h; text = refl }; within = omega arith }
 
-  pub one_period : {k end next : ℕ} {text new : List ℕ} → k < n →
-      let t = get_or periods k (seconds 0) in
-      t.0 ≤ 3600 → PeriodsPut old at periods n k end text → Puts text end (spaced t.0) next new → PeriodsPut old at periods n (k + 1) next new
-  one_period {k} {end} {next} {text} {new} h small i p =
-      record {
-        upto = omega arith;
-        puts = subst (λ (w : List ℕ). Puts old at w next new) (next_period periods k) (put_then i.puts p);
-        within = omega (arith, p.place, i.within, period_few (get_or periods k (seconds 0)) small);
-      }
+  -- the next of the first n
+  module _ {k end wide : ℕ} {text : List ℕ} (p : Printable periods n) (i : PeriodsPut old at periods n k end text)
+      (h : k < length (take n periods)) (is : wide ≡ (get_or (take n periods) k (seconds 0)).0) where
+    inside : k < n
+    inside = omega (arith, length-take n periods)
+
+    wide_is : wide ≡ (get_or periods k (seconds 0)).0
+    wide_is = is ∙ ap (λ (t : Seconds). t.0) (get_or-take n periods k (seconds 0) inside)
+
+    few : length (spaced wide) ≤ 5
+    few = rw wide_is (period_few (get_or periods k (seconds 0)) (p.each k inside))
+
+    pub period_room : at + 5 * n ≤ 80 → end + length (spaced wide) ≤ 80
+    period_room room = omega (arith, i.within, inside, few)
+
+    pub one_period : {next : ℕ} {new : List ℕ} → Puts text end (spaced wide) next new → PeriodsPut old at periods n (k + 1) next new
+    one_period {next} {new} put =
+        let next = next_period periods k in
+        record {
+          upto = omega (arith, inside);
+          puts = rw (← next, ← wide_is) (put_then i.puts put);
+          within = omega (arith, put.place, i.within, few);
+        }

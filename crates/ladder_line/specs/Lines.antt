@@ -5,8 +5,7 @@ use Prim.Native.Char.{code}
 use Prim.Native.String.{String, [] as none, ◌∷◌ as ◌then◌}
 use Rattle.model.specs.declared.Seconds.{Seconds}
 use Rattle.model.specs.declared.PagesPerHour.{PagesPerHour}
-use Rattle.model.specs.declared.Verdict.{Verdict}
-use Rattle.model.specs.Model.{number_of, detail_of}
+use Rattle.model.specs.Model.{Verdict, number_of, detail_of}
 
 -- A text as bytes: the codes of its characters.
 abbrev pub ascii : String → List ℕ

@@ -1,5 +1,7 @@
 // The text of one line that the ladder program prints, put into lent bytes: a refusal, the header, or a row.
 //
+// The text is 80 bytes with a place beside it: so `ladder_listing::line` is lent it, and nothing is allocated.
+//
 // specs/Lines.antt says which bytes a line has, and specs/Writing.antt what putting them does to a text. The functions serve
 // `listing`, and their callers meet what they require. Nothing is assumed.
 #![tactic(auto)]
@@ -16,7 +18,7 @@ use model::{PagesPerHour, Seconds, Verdict};
 pub fn refusal_line(v: Verdict, text: &mut [u8; 80]) -> usize
     ensures { Puts text.old 0 (refusal_line v) result text.new }
 {
-    let number = refusal::number(v) as u64;
+    let number = u64::from(refusal::number(v));
     let detail = refusal::detail(v);
     let after_word = put(text, 0, b"refused");
     let after_number = put_spaced(text, after_word, number);
@@ -30,7 +32,7 @@ pub fn header_line(n: u32, rows: u64, text: &mut [u8; 80]) -> usize
     ensures { Puts text.old 0 (header_line n rows) result text.new }
 {
     let after_jobs = put(text, 0, b"jobs");
-    let after_n = put_spaced(text, after_jobs, n as u64);
+    let after_n = put_spaced(text, after_jobs, u64::from(n));
     let after_rows = put(text, after_n, b" rows");
     let after_count = put_spaced(text, after_rows, rows);
     put(text, after_count, b"\n")
@@ -47,7 +49,7 @@ pub fn put_row(
     requires { Printable periods n }
     ensures { Puts text.old 0 (row_line start loss (entries (seconds 0) periods 0 n)) result text.new }
 {
-    let after_start = put_number(text, 0, start.0 as u64);
+    let after_start = put_number(text, 0, u64::from(start.0));
     let after_loss = put_spaced(text, after_start, loss);
     let after_periods = put_periods(text, after_loss, periods, n as usize);
     put(text, after_periods, b"\n")
@@ -55,15 +57,14 @@ pub fn put_row(
 
 // The first n of eight periods, a space before each.
 fn put_periods(text: &mut [u8; 80], at: usize, periods: [Seconds; 8], n: usize) -> usize
-    requires { Printable periods n × (at + 5 * n ≤ 80) × (at ≤ length text.old) }
-    ensures { Puts text.old at (spaced_periods (entries (seconds 0) periods 0 n)) result text.new × (result ≤ at + 5 * n) }
+    requires printable { Printable periods n }
+    requires room { at + 5 * n ≤ 80 }
+    ensures puts { Puts text.old at (spaced_periods (entries (seconds 0) periods 0 n)) result text.new }
+    ensures within { result ≤ at + 5 * n }
 {
     let mut end = at;
-    let mut i: usize = 0;
-    while i < n {
-        let t = periods[i];
-        end = put_spaced(text, end, t.0 as u64);
-        i += 1;
+    for &t in &periods[..n] {
+        end = put_spaced(text, end, u64::from(t));
     }
     end
 }
@@ -89,16 +90,12 @@ fn put_number(text: &mut [u8; 80], at: usize, n: u64) -> usize
 }
 
 // Some bytes from place `at` on; the place after them.
+#[tactic(auto, using(crate::proofs::Putting::put_part))]
 fn put(text: &mut [u8; 80], at: usize, bytes: &[u8]) -> usize
     requires { at + length bytes.now ≤ 80 }
     ensures { Puts text.old at bytes.now result text.new }
 {
-    // As a slice, whose length is known.
-    let out: &mut [u8] = text;
-    let mut k: usize = 0;
-    while k < bytes.len() {
-        out[at + k] = bytes[k];
-        k += 1;
-    }
-    at + k
+    let end = at + bytes.len();
+    text[at..end].copy_from_slice(bytes);
+    end
 }

@@ -6,5 +6,4 @@ pub mod Preparing
 pub mod Printing
 pub mod RowLines
 pub mod Settled
-pub mod Verdicts
 pub mod WholeText

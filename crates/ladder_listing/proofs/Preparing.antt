@@ -1,29 +1,23 @@
--- A refused reading comes with a profile of zeros, and building refuses that, so that a listing says no more than its refusal.
--- Assumes nothing.
-use mathlib.Core.Path.{◌≡◌, refl, sym, ◌∙◌, ap, subst}
+-- Reading and then building, as `prepare` does: either refusal is handed on, and past both the rows are told. Assumes nothing.
+use mathlib.Core.Path.{◌≡◌}
 use mathlib.Core.List.{List}
-use Prim.Native.Nat.{ℕ}
+use Prim.Native.Nat.{ℕ, ◌*◌}
+use lib.ListN.{length}
+use Rattle.std.specs.Prelude.{Ok, Err}
 use Rattle.model.specs.declared.Profile.{Profile}
-use Rattle.model.specs.declared.Verdict.{Verdict}
-use Rattle.model.specs.declared.Verdict.TheVariants.{JobCount}
-use Rattle.model.specs.Model.{refuse_if, or_else, verdict_of}
-use Rattle.model.proofs.Verdicts.{Refuses, beside_refusal}
-use Rattle.model.proofs.FrontPut.{none_put}
-use Rattle.profile_read.specs.declared.Reading.{Reading}
-use Rattle.profile_read.specs.Reading.{no_profile, Reads}
+use Rattle.model.specs.declared.Refusal.{Refusal}
+use Rattle.model.specs.Model.{row_size}
+use Rattle.profile_read.specs.Reading.{Reads}
 use Rattle.table.specs.Table.{Built}
-use Rattle.table.proofs.Outcome.{built}
+use Rattle.ladder_listing.specs.Listing.{unread, unbuilt, built, Prepares}
 
-zeros_refused : (next : Verdict) → or_else (verdict_of no_profile) next ≡ JobCount
-unfolding verdict_of or_else refuse_if
-zeros_refused next = refl
+module _ {input old : List ℕ} (room : length old ≡ row_size * 4096) where
+  pub unread_prepared : {refusal : Refusal} → Reads input (Err refusal) → Prepares input old (Err refusal) old
+  unread_prepared read = record { outcome = unread read; room = room; kept = room }
 
-pub zeros_build : (p : Profile) (next : Verdict) → p ≡ no_profile → or_else (verdict_of p) next ≡ JobCount
-zeros_build p next e = ap (λ (q : Profile). or_else (verdict_of q) next) e ∙ zeros_refused next
+  module _ {new : List ℕ} (kept : length new ≡ row_size * 4096) {p : Profile} (read : Reads input (Ok p)) where
+    pub unbuilt_prepared : {refusal : Refusal} → Built p old (Err refusal) new → Prepares input old (Err refusal) new
+    unbuilt_prepared refused = record { outcome = unbuilt read refused; room = room; kept = kept }
 
-pub read_zeros : {bytes : List ℕ} {r : Reading} → Reads bytes r → Refuses r.verdict → r.profile ≡ no_profile
-read_zeros read h = read.profile ∙ sym (beside_refusal _ _ h read.verdict)
-
--- nothing is built of zeros
-pub none_built : (p : Profile) (old : List ℕ) → p ≡ no_profile → Built p old (record { verdict = JobCount; count = 0 }) old
-none_built p old e = subst (λ (q : Profile). Built q old (record { verdict = JobCount; count = 0 }) old) (sym e) (built no_profile old (none_put no_profile _ _ _ old JobCount tt (sym (zeros_refused _))))
+    pub built_prepared : {rows : ℕ} → Built p old (Ok rows) new → Prepares input old (Ok (record { profile = p; rows = rows })) new
+    built_prepared done = record { outcome = built read done; room = room; kept = kept }

@@ -1,53 +1,45 @@
 -- Which line comes when: each way out of `line` is one case of `line_at`. Assumes nothing.
-use mathlib.Core.Path.{◌≡◌, refl, sym, ◌∙◌, ap, subst}
-use mathlib.Core.List.{List, []}
+use mathlib.Core.Path.{◌≡◌, refl}
+use mathlib.Core.List.{List}
 use Prim.Native.Nat.{ℕ, zero, suc, ◌-◌, ◌≤◌, ◌<◌}
 use native.Mathlib.Nat.{not-suc-le-zero}
 use native.Mathlib.Omega.{arith}
-use lib.ListN.{length}
-use lib.Seq.{length-sets, length-take-le}
 use borrow.Author.Tests.{lt-ltb, le-ltb}
-use Rattle.model.specs.declared.Verdict.TheVariants.{Sound}
-use Rattle.model.proofs.Verdicts.{Refuses, beside_sound, beside_refusal}
-use Rattle.io.specs.Counts.{IsPrefixLen}
+use Rattle.std.specs.Prelude.{Result, Ok, Err}
+use Rattle.model.specs.declared.Refusal.{Refusal}
 use Rattle.ladder_listing.specs.declared.Listing.{Listing}
 use Rattle.ladder_line.specs.Lines.{refusal_line, header_line}
 use Rattle.ladder_listing.specs.Listing.{line_of_row, line_at, Prints}
 use Rattle.ladder_line.specs.Writing.{Puts}
-use Rattle.ladder_line.proofs.Putting.{put_front}
-
-module _ (l : Listing) (table : List ℕ) where
-  module _ (h : Refuses l.verdict) where
-    pub refusal_first : (k : ℕ) → k ≡ 0 → refusal_line l.verdict ≡ line_at l table k
-    unfolding line_at
-    refusal_first k e = rw e (beside_refusal _ _ h refl)
-
-    pub nothing_more : (k : ℕ) → (k ≡ 0 → ⊥) → [] ≡ line_at l table k
-    unfolding line_at
-    nothing_more zero some = absurd (some refl)
-    nothing_more (suc k) some = beside_refusal _ _ h refl
-
-  module _ (sound : l.verdict ≡ Sound) where
-    pub header_first : (k : ℕ) → k ≡ 0 → header_line l.profile.n l.rows ≡ line_at l table k
-    unfolding line_at
-    header_first k e = rw e (beside_sound _ _ (sym sound))
-
-    pub rows_end : (k : ℕ) → l.rows < k → [] ≡ line_at l table k
-    unfolding line_at
-    rows_end zero past = absurd (not-suc-le-zero past)
-    rows_end (suc k) past = sym (rw (le-ltb k l.rows (omega arith)) (sym (beside_sound _ _ (sym sound))))
-
-    pub row_next : (k : ℕ) → (k ≡ 0 → ⊥) → k ≤ l.rows → line_of_row l.profile table (k - 1) ≡ line_at l table k
-    unfolding line_at
-    row_next zero some to = absurd (some refl)
-    row_next (suc k) some to =
-        let e : suc k - 1 ≡ k = omega arith in
-        ap (line_of_row l.profile table) e ∙ sym (rw (lt-ltb k l.rows (omega arith)) (sym (beside_sound _ _ (sym sound))))
+use Rattle.ladder_line.proofs.Putting.{put_none, put_front}
 
 -- what is put to the front is printed
-pub printed : (l : Listing) (table : List ℕ) (k : ℕ) {w old new : List ℕ} {r : ℕ} → w ≡ line_at l table k → Puts old 0 w r new → Prints l table k old r new × IsPrefixLen r new
-printed l table k {w} {old} {new} {r} e p =
-    let puts : Puts old 0 (line_at l table k) r new = subst (λ (x : List ℕ). Puts old 0 x r new) e p in
-    let same : length new ≡ length old = ap length puts.text ∙ length-sets old 0 (line_at l table k) in
-    let within : r ≤ length new = omega (arith, puts.room) in
-    (record { size = omega (arith, puts.place); text = put_front puts }, (within, sym (length-take-le r new within)))
+printed : (l : Result Listing Refusal) (table : List ℕ) (k : ℕ) {old new : List ℕ} {r : ℕ} → Puts old 0 (line_at l table k) r new → Prints l table k old r new
+printed l table k puts = record { size = omega (arith, puts.place); text = put_front puts }
+
+module _ {table old new : List ℕ} {r : ℕ} where
+  pub refusal_printed : {refusal : Refusal} {k : ℕ} → k ≡ 0 → Puts old 0 (refusal_line (Err refusal)) r new → Prints (Err refusal) table k old r new
+  unfolding line_at
+  refusal_printed {refusal} e puts = rw e (printed (Err refusal) table 0 puts)
+
+  pub header_printed : {l : Listing} {k : ℕ} → k ≡ 0 → Puts old 0 (header_line l.profile.n l.rows) r new → Prints (Ok l) table k old r new
+  unfolding line_at
+  header_printed {l} e puts = rw e (printed (Ok l) table 0 puts)
+
+  pub row_printed : {l : Listing} {k : ℕ} → (k ≡ 0 → ⊥) → k ≤ l.rows → Puts old 0 (line_of_row l.profile table (k - 1)) r new → Prints (Ok l) table k old r new
+  unfolding line_at
+  row_printed {k = zero} some to puts = absurd (some refl)
+  row_printed {l} {k = suc k} some to puts =
+      let e : suc k - 1 ≡ k = omega arith in
+      printed (Ok l) table (suc k) (rw (lt-ltb k l.rows (omega arith), ← e) puts)
+
+module _ {table old : List ℕ} where
+  pub none_beyond : {l : Listing} {k : ℕ} → l.rows < k → Prints (Ok l) table k old 0 old
+  unfolding line_at
+  none_beyond {k = zero} past = absurd (not-suc-le-zero past)
+  none_beyond {l} {k = suc k} past = printed (Ok l) table (suc k) (rw (le-ltb k l.rows (omega arith)) (put_none old))
+
+  pub none_beside : {refusal : Refusal} {k : ℕ} → (k ≡ 0 → ⊥) → Prints (Err refusal) table k old 0 old
+  unfolding line_at
+  none_beside {k = zero} some = absurd (some refl)
+  none_beside {refusal} {k = suc k} some = printed (Err refusal) table (suc k) (put_none old)

@@ -1,95 +1,93 @@
 -- The lines of a prepared listing, one after the other, are the text of its input: a refused listing has its refusal alone, and a
 -- sound one its header and rows. Assumes nothing.
-use mathlib.Core.Path.{◌≡◌, refl, sym, ◌∙◌, ap, subst}
-use mathlib.Core.Logic.{⊎_elim}
-use mathlib.Core.List.{List, ◌++◌}
+use mathlib.Core.Path.{◌≡◌, refl, sym, ◌∙◌, ap}
+use mathlib.Core.Logic.{◌↔◌}
+use mathlib.Core.List.{List, []}
 use Prim.Native.Nat.{ℕ, ◌*◌}
 use lib.ListN.{length, drop}
+use Rattle.std.specs.Prelude.{Result, Ok, Err}
+use Rattle.model.specs.declared.Seconds.{Seconds}
 use Rattle.model.specs.declared.Profile.{Profile}
-use Rattle.model.specs.declared.Verdict.TheVariants.{Sound}
-use Rattle.model.specs.Model.{jobs_of, or_else, verdict_of, count_verdict}
-use Rattle.model.specs.Valid.{Valid}
+use Rattle.model.specs.declared.Refusal.{Refusal}
+use Rattle.model.specs.Model.{Verdict, sound, jobs_of, Permitted, or_else, if_sound, verdict_of, row_size, count_verdict}
 use Rattle.model.proofs.Validity.{sound_valid}
-use Rattle.model.proofs.Verdicts.{Refuses, sound_passes, both_sound, beside_sound, beside_refusal}
-use Rattle.table.specs.Table.{table_bytes}
+use Rattle.model.proofs.Verdicts.{refusal_is_none, both_sound}
+use Rattle.profile_read.specs.Reading.{Reads}
+use Rattle.table.specs.Table.{TableOf, table_bytes, Built}
 use Rattle.table_lookup.proofs.Laid.{Laid, AllPermitted}
 use Rattle.ladder_listing.specs.declared.Listing.{Listing}
-use Rattle.ladder_line.specs.Lines.{refusal_line, header_line}
-use Rattle.ladder_listing.specs.Listing.{line_at, Prepares}
-use Rattle.ladder_listing.specs.Text.{row_lines, listing_verdict, text_of, Text, lines_to}
+use Rattle.ladder_line.specs.Lines.{refusal_line}
+use Rattle.ladder_listing.specs.Listing.{line_at, Prepared, unread, unbuilt, built, Prepares}
+use Rattle.ladder_listing.specs.Text.{listing_verdict, text_for, text_of, Text, last_line, lines_to}
 use Rattle.ladder_listing.proofs.Laying.{sound_lines}
-use Rattle.ladder_listing.proofs.Preparing.{read_zeros, zeros_build}
-use Rattle.ladder_listing.proofs.Verdicts.{sound_or_refused}
 
-module _ {input old : List ℕ} {l : Listing} {new : List ℕ} (prepared : Prepares input old l new) where
-  -- the verdict on building, at the room that is lent
-  at_room : prepared.building.verdict ≡ or_else (verdict_of prepared.reading.profile) (count_verdict (length prepared.built.rows) (16 * 4096))
-  at_room =
-      let p = prepared.reading.profile in
-      prepared.built.puts.verdict ∙ ap (λ (size : ℕ). or_else (verdict_of p) (count_verdict (length prepared.built.rows) size)) prepared.room
+abbrev reading_of : Profile → Result Profile Refusal
+reading_of p = Ok p
 
-  verdict_is : l.verdict ≡ listing_verdict prepared.reading (length prepared.built.rows)
+abbrev counted : ℕ → Result ℕ Refusal
+counted n = Ok n
+
+-- the text of a profile that is read, by the rows that building has
+text_built : {input text : List ℕ} {p : Profile} {old new : List ℕ} {r : Result ℕ Refusal} → Reads input (Ok p) → (b : Built p old r new) → text ≡ text_of (Ok p) b.rows → Text input text
+text_built {p = p} read b is = record { reading = Ok p; read = read; rows = b.rows; are = are; none = none; is = is }
+  where
+    are : {q : Profile} → reading_of p ≡ Ok q → verdict_of q ≡ sound → TableOf (jobs_of q) b.rows
+    are {q} e = let same : p ≡ q = cc in rw (← same) b.are
+
+    none : {q : Profile} → reading_of p ≡ Ok q → verdict_of q ≡ sound → (length b.rows ≡ 0) ↔ ((ts : List Seconds) → Permitted (jobs_of q) ts → ⊥)
+    none {q} e = let same : p ≡ q = cc in rw (← same) b.none
+
+-- three in a row, however they are taken together
+in_turn : {A : Type 0} (v w : Verdict) (rest : Result A Refusal) → or_else v (or_else w rest) ≡ or_else (or_else v w) rest
+unfolding or_else
+in_turn (Ok none) w rest = refl
+in_turn (Err refusal) w rest = refl
+
+module _ {p : Profile} {old new : List ℕ} (room : length old ≡ row_size * 4096) where
+  -- what building answers in the room that is lent
+  answer_is : {r : Result ℕ Refusal} (b : Built p old r new) → r ≡ or_else (listing_verdict p (length b.rows)) (Ok (length b.rows))
   unfolding listing_verdict
-  verdict_is = prepared.verdict ∙ ap (or_else prepared.reading.verdict) at_room
+  answer_is b =
+      let n = length b.rows in
+      b.puts.answer ∙ ap (λ (size : ℕ). or_else (verdict_of p) (or_else (count_verdict n size) (Ok n))) room ∙ in_turn (verdict_of p) (count_verdict n (row_size * 4096)) (Ok n)
 
-  -- a refused listing has no rows
-  building_refused : Refuses prepared.building.verdict → l.rows ≡ 0
-  building_refused h = prepared.rows ∙ prepared.built.puts.count ∙ sym (beside_refusal _ _ h refl)
+  refused_text : {refusal : Refusal} (b : Built p old (Err refusal) new) → refusal_line (Err refusal) ≡ text_of (Ok p) b.rows
+  unfolding text_of text_for or_else
+  refused_text {refusal} b = go (listing_verdict p (length b.rows)) (answer_is b)
+    where
+      go : (v : Verdict) → Err refusal ≡ or_else v (Ok (length b.rows)) → refusal_line (Err refusal) ≡ text_for p b.rows v
+      go (Ok none) e = absurd (refusal_is_none e)
+      go (Err other) e = let same : refusal ≡ other = cc in ap (λ (x : Refusal). refusal_line (Err x)) same
 
-  reading_refused : Refuses prepared.reading.verdict → Refuses prepared.building.verdict
-  reading_refused h = subst Refuses (sym (prepared.built.puts.verdict ∙ zeros_build prepared.reading.profile _ (read_zeros prepared.read h))) tt
+  module _ {count : ℕ} (b : Built p old (Ok count) new) where
+    both : (listing_verdict p (length b.rows) ≡ sound) × (counted (length b.rows) ≡ Ok count)
+    both = both_sound (listing_verdict p (length b.rows)) (sym (answer_is b))
 
-  no_rows : Refuses l.verdict → l.rows ≡ 0
-  no_rows h =
-      building_refused (⊎_elim
-      (λ e. subst Refuses (prepared.verdict ∙ sound_passes {v = prepared.reading.verdict} _ refl e) h)
-      reading_refused
-      (sound_or_refused prepared.reading.verdict))
+    own : verdict_of p ≡ sound
+    unfolding listing_verdict
+    own = (both_sound (verdict_of p) both.0).0
 
-  refused_text : Refuses l.verdict → lines_to l new l.rows ≡ text_of prepared.reading prepared.built.rows
-  unfolding lines_to line_at text_of
-  refused_text h = ap (lines_to l new) (no_rows h) ∙ sym (beside_refusal _ _ h refl) ∙ ap refusal_line verdict_is ∙ beside_refusal _ _ h verdict_is
+    all_permitted : AllPermitted (jobs_of p) b.rows
+    all_permitted ts m = ((b.are own).some_budget ts m).2.permitted
 
-  -- a sound one has the rows of its table
-  module _ (sound : l.verdict ≡ Sound) where
-    built_sound : prepared.building.verdict ≡ Sound
-    built_sound = (both_sound prepared.reading.verdict (sym prepared.verdict ∙ sound)).1
+    laid : Laid (jobs_of p) b.rows new
+    unfolding if_sound
+    laid = record { rest = drop (length (table_bytes (jobs_of p) b.rows)) old; is = b.puts.bytes }
 
-    profile_sound : verdict_of prepared.reading.profile ≡ Sound
-    profile_sound = (both_sound (verdict_of prepared.reading.profile) (sym prepared.built.puts.verdict ∙ built_sound)).0
+    count_is : count ≡ length b.rows
+    count_is = let e = both.1 in cc
 
-    valid : Valid prepared.reading.profile
-    valid = sound_valid prepared.reading.profile profile_sound
-
-    all_permitted : AllPermitted (jobs_of prepared.reading.profile) prepared.built.rows
-    all_permitted ts m = ((prepared.built.are profile_sound).some_budget ts m).2.permitted
-
-    laid : Laid (jobs_of prepared.reading.profile) prepared.built.rows new
-    laid = record {
-      rest = drop (length (table_bytes (jobs_of prepared.reading.profile) prepared.built.rows)) old;
-      is = prepared.built.puts.bytes ∙ sym (beside_sound _ _ (sym built_sound));
-    }
-
-    count : l.rows ≡ length prepared.built.rows
-    count = prepared.rows ∙ prepared.built.puts.count ∙ sym (beside_sound _ _ (sym built_sound))
-
-    sound_text : lines_to l new l.rows ≡ text_of prepared.reading prepared.built.rows
-    unfolding text_of
-    sound_text =
-        let rows = prepared.built.rows in
-        let e = sym (prepared.profile ∙ sym (beside_sound _ _ (sym sound))) in
-        let all = subst (λ (q : Profile). AllPermitted (jobs_of q) rows) e all_permitted in
-        sound_lines l sound (subst Valid e valid) all (subst (λ (q : Profile). Laid (jobs_of q) rows new) e laid) count
-        ∙ ap (λ (q : Profile). header_line q.n (length rows) ++ row_lines (jobs_of q) rows) (sym e)
-        ∙ beside_sound _ _ (sym sound ∙ verdict_is)
+    sound_text : lines_to (Ok (record { profile = p; rows = count })) new count ≡ text_of (Ok p) b.rows
+    unfolding text_of text_for
+    sound_text = sound_lines (record { profile = p; rows = count }) (sound_valid p own) all_permitted laid count_is ∙ sym (ap (text_for p b.rows) both.0)
 
 -- Line 0 to the last line, written one after the other, are the text of the input.
-pub lines_are_text : {input old : List ℕ} {l : Listing} {new : List ℕ} → Prepares input old l new → Text input (lines_to l new l.rows)
-lines_are_text {input} {old} {l} {new} prepared = record {
-  reading = prepared.reading;
-  read = prepared.read;
-  rows = prepared.built.rows;
-  are = prepared.built.are;
-  none = prepared.built.none;
-  is = ⊎_elim (sound_text prepared) (refused_text prepared) (sound_or_refused l.verdict);
-}
+pub lines_are_text : {input old : List ℕ} {l : Result Listing Refusal} {new : List ℕ} → Prepares input old l new → Text input (lines_to l new (last_line l))
+unfolding lines_to last_line line_at text_of
+lines_are_text {input} {old} prepared = go prepared.outcome prepared.room
+  where
+    go : {l : Result Listing Refusal} {new : List ℕ} → Prepared input old l new → length old ≡ row_size * 4096 → Text input (lines_to l new (last_line l))
+    go (unread {refusal} read) room =
+        record { reading = Err refusal; read = read; rows = []; are = λ e. absurd (refusal_is_none e); none = λ e. absurd (refusal_is_none e); is = refl }
+    go (unbuilt read b) room = text_built read b (refused_text room b)
+    go (built read b) room = text_built read b (sound_text room b)

@@ -8,73 +8,42 @@ ghost use Rattle.io.specs.Counts.{IsPrefixLen};
 ghost use Rattle.ladder_line.specs.Writing.{Puts};
 ghost use Rattle.ladder_listing.specs.Listing.{line_of_row, Prepares, Prints};
 
-use model::{Profile, ROW_SIZE, Verdict};
+use model::{Profile, ROW_SIZE, Refusal};
 
-// A profile and the number of rows of its table, or why there is none; beside a refusal zeros.
-#[derive(Clone, Copy)]
+// A profile and the number of rows of its table.
+#[derive(Clone, Copy, Debug, PartialEq, Eq)]
 pub struct Listing {
-    pub verdict: Verdict,
     pub profile: Profile,
     pub rows: u64,
 }
 
 // Reads a profile and builds its table in the lent room for 4,096 rows, or refuses and leaves the room as it was.
-pub fn prepare(input: &[u8], table: &mut [u8; 65536]) -> Listing
+#[tactic(auto, using(crate::proofs::Preparing::unread_prepared, crate::proofs::Preparing::unbuilt_prepared, crate::proofs::Preparing::built_prepared))]
+pub fn prepare(input: &[u8], table: &mut [u8; 65536]) -> Result<Listing, Refusal>
     ensures { Prepares input.now table.old result table.new }
 {
-    // As a slice from here on: only a slice's length is known where it is handed back.
-    let room: &mut [u8] = table;
-    let reading = profile_read::read_profile(input);
-    let profile = reading.profile;
-    let v = reading.verdict;
-    let Verdict::Sound = v else {
-        return Listing {
-            verdict: v,
-            profile,
-            rows: 0,
-        };
-    };
-    let built = table::build_table(profile, room);
-    let w = built.verdict;
-    let Verdict::Sound = w else {
-        return Listing {
-            verdict: w,
-            profile: profile_read::no_profile(),
-            rows: 0,
-        };
-    };
-    Listing {
-        verdict: w,
-        profile,
-        rows: built.count,
-    }
+    let profile = profile_read::read_profile(input)?;
+    let rows = table::build_table(profile, table)?;
+    Ok(Listing { profile, rows })
 }
 
 // Puts the k-th line of a listing to the front of `text` and answers its length; where there is no such line, 0.
 // Line 0 is the header or the refusal, line k the table's row k - 1. The longest line has 72 bytes. The second clause is
 // what lending the line, `&text[..n]`, needs.
-pub fn line(l: Listing, table: &[u8], k: u64, text: &mut [u8; 80]) -> usize
-    ensures prints { Prints l table.now k text.old result text.new }
+pub fn line(listing: Result<Listing, Refusal>, table: &[u8], k: u64, text: &mut [u8; 80]) -> usize
+    ensures prints { Prints listing table.now k text.old result text.new }
     ensures prefix_len { IsPrefixLen result text.new }
 {
-    let v = l.verdict;
-    let Verdict::Sound = v else {
-        if k == 0 {
-            return ladder_line::refusal_line(v, text);
-        }
-        return 0;
-    };
-    let p = l.profile;
-    if k == 0 {
-        return ladder_line::header_line(p.n, l.rows, text);
+    match listing {
+        Ok(l) if k == 0 => ladder_line::header_line(l.profile.n, l.rows, text),
+        Ok(l) if k <= l.rows => row_line(l.profile, table, (k - 1) as usize, text),
+        Err(refusal) if k == 0 => ladder_line::refusal_line(Err(refusal), text),
+        _ => 0,
     }
-    if l.rows < k {
-        return 0;
-    }
-    row_line(p, table, (k - 1) as usize, text)
 }
 
 // Row k of a table, from 0; nothing where there is no such row or scoring refuses its periods.
+#[tactic(auto, using(crate::proofs::RowLines::scored_printable))]
 fn row_line(p: Profile, table: &[u8], k: usize, text: &mut [u8; 80]) -> usize
     ensures { Puts text.old 0 (line_of_row p table.now k) result text.new }
 {
@@ -82,11 +51,8 @@ fn row_line(p: Profile, table: &[u8], k: usize, text: &mut [u8; 80]) -> usize
         return 0;
     }
     let row = table_row::row_at(table, k);
-    let periods = row.periods;
-    let scored = score::score(p, periods);
-    let v = scored.verdict;
-    let Verdict::Sound = v else {
+    let Ok(scored) = score::score(p, row.periods) else {
         return 0;
     };
-    ladder_line::put_row(row.start, scored.loss, periods, p.n, text)
+    ladder_line::put_row(row.start, scored.loss, row.periods, p.n, text)
 }

@@ -2,16 +2,15 @@
 -- contract of the planner is stated with these definitions; a comment that renders a rule ends in the rule's place there. Laws about
 -- them are in proofs/, which no contract cites publicly. Need, loss and permitted periods are meant for the jobs of a valid profile.
 -- Assumes nothing.
-use Rattle.std.specs.Prelude.{◌≡◌, Bool, cond, ◌||◌, ℕ, zero, suc, ◌+◌, ◌*◌, ◌-◌, ◌/◌, ◌%◌, ◌^◌, ◌≤◌, max, length, get_or, drop, replicate, eqb, ltb}
+use Rattle.std.specs.Prelude.{◌≡◌, Result, Ok, Err, Bool, cond, ◌||◌, ℕ, zero, suc, ◌+◌, ◌*◌, ◌-◌, ◌/◌, ◌%◌, ◌^◌, ◌≤◌, max, length, get_or, drop, replicate, eqb, ltb}
 use mathlib.Core.List.{List, [], ◌∷◌, ◌++◌, Memᴰ}
 use Rattle.model.specs.declared.Seconds.{Seconds}
 use Rattle.model.specs.declared.PagesPerHour.{PagesPerHour}
 use Rattle.model.specs.declared.ExactNeed.{ExactNeed}
 use Rattle.model.specs.declared.Job.{Job}
 use Rattle.model.specs.declared.Profile.{Profile}
-use Rattle.model.specs.declared.Counted.{Counted}
-use Rattle.model.specs.declared.Verdict.{Verdict}
-use Rattle.model.specs.declared.Verdict.TheVariants.{Sound, NoBytes, Edition, JobCount, Length, Interval, Stiffness, Spare, Pages, NoPeriods, Budget, Room, Row, Periods}
+use Rattle.model.specs.declared.Refusal.{Refusal}
+use Rattle.model.specs.declared.Refusal.TheVariants.{NoBytes, Edition, JobCount, Length, Interval, Stiffness, Spare, Pages, NoPeriods, Budget, Room, Row, Periods}
 
 -- Quantities
 
@@ -115,10 +114,6 @@ per_hour pages t = record { whole = pages_per_hour (3600 * pages / t.0); remaind
 unfoldable pub exact_need : List Job → List Seconds → ExactNeed
 exact_need js ts = let cycle = last_of (seconds 1) ts in per_hour (pages_in cycle js ts) cycle
 
--- Zeros, beside a refusal (Refusal numbers).
-abbrev pub zero_need : ExactNeed
-zero_need = record { whole = pages_per_hour 0; remainder = record { 0 = 0 } }
-
 -- A need rounded up to whole pages. Nothing else rounds one (Quantities: need; 02, Ticket 4).
 unfoldable pub rounded_up : ExactNeed → PagesPerHour
 rounded_up q = pages_per_hour (cond (eqb q.remainder.0 0) q.whole.0 (q.whole.0 + 1))
@@ -166,44 +161,58 @@ pub record Best (js : List Job) (b : PagesPerHour) (ts : List Seconds) : Type 0 
 
 -- Refusal numbers
 
--- The number and the detail of each refusal; 0 and 0 are none (Refusal numbers, the table).
-abbrev pub told_of : Verdict → ℕ × ℕ
-told_of Sound = (0, 0)
-told_of NoBytes = (1, 0)
-told_of Edition = (2, 0)
-told_of JobCount = (3, 0)
-told_of Length = (4, 0)
-told_of (Interval k) = (5, k)
-told_of (Stiffness k) = (6, k)
-told_of (Spare k) = (7, k)
-told_of (Pages k) = (8, k)
-told_of NoPeriods = (9, 0)
-told_of (Budget b) = (10, b.0)
-told_of (Room k) = (11, k)
-told_of (Row k) = (12, k)
-told_of (Periods k) = (13, k)
+-- What an operation says of its input alone: sound, or why it refuses (Refusal numbers).
+abbrev pub Verdict : Type 0
+Verdict = Result Unit Refusal
 
-abbrev pub number_of : Verdict → ℕ
-number_of v = (told_of v).0
+abbrev pub sound : Verdict
+sound = Ok tt
 
-abbrev pub detail_of : Verdict → ℕ
-detail_of v = (told_of v).1
+-- The number and the detail of each refusal; 0 and 0 stand where there is none (Refusal numbers, the table).
+abbrev pub told_of : {A : Type 0} → Result A Refusal → ℕ × ℕ
+told_of (Ok answer) = (0, 0)
+told_of (Err NoBytes) = (1, 0)
+told_of (Err Edition) = (2, 0)
+told_of (Err JobCount) = (3, 0)
+told_of (Err Length) = (4, 0)
+told_of (Err (Interval k)) = (5, k)
+told_of (Err (Stiffness k)) = (6, k)
+told_of (Err (Spare k)) = (7, k)
+told_of (Err (Pages k)) = (8, k)
+told_of (Err NoPeriods) = (9, 0)
+told_of (Err (Budget b)) = (10, b.0)
+told_of (Err (Room k)) = (11, k)
+told_of (Err (Row k)) = (12, k)
+told_of (Err (Periods k)) = (13, k)
+
+abbrev pub number_of : {A : Type 0} → Result A Refusal → ℕ
+number_of r = (told_of r).0
+
+abbrev pub detail_of : {A : Type 0} → Result A Refusal → ℕ
+detail_of r = (told_of r).1
 
 -- A refusal where a test holds, else what comes after it: the order of the checks (Refusal numbers, order).
-unfoldable pub refuse_if : Bool → Verdict → Verdict → Verdict
-refuse_if test refusal rest = cond test refusal rest
+unfoldable pub refuse_if : {A : Type 0} → Bool → Refusal → Result A Refusal → Result A Refusal
+refuse_if test refusal rest = cond test (Err refusal) rest
 
--- The first verdict if it is a refusal; a sound one gives way to the second.
-unfoldable pub or_else : Verdict → Verdict → Verdict
-or_else v rest = cond (eqb (number_of v) 0) rest v
+-- The refusal of a verdict; a sound one gives way to what comes after it.
+unfoldable pub or_else : {A : Type 0} → Verdict → Result A Refusal → Result A Refusal
+or_else (Ok none) rest = rest
+or_else (Err refusal) rest = Err refusal
 
--- What stands beside a verdict: the answer where it is sound, and `none` beside a refusal (Refusal numbers).
-unfoldable pub if_sound : {A : Type 0} → Verdict → A → A → A
-if_sound v answer none = cond (eqb (number_of v) 0) answer none
+-- The verdict of an answer.
+unfoldable pub verdict_in : {A : Type 0} → Result A Refusal → Verdict
+verdict_in (Ok answer) = sound
+verdict_in (Err refusal) = Err refusal
+
+-- What stands in a lent buffer beside an answer, and what beside a refusal (Refusal numbers).
+unfoldable pub if_sound : {A B : Type 0} → Result B Refusal → A → A → A
+if_sound (Ok answer) put kept = put
+if_sound (Err refusal) put kept = kept
 
 -- The first refusal as the entries of a list are judged one by one, each with its number, the first one's being k + 1.
 unfoldable pub first_refused : {A : Type 0} → (A → ℕ → Verdict) → ℕ → List A → Verdict
-first_refused judgeOne k [] = Sound
+first_refused judgeOne k [] = sound
 first_refused judgeOne k (x ∷ xs) = or_else (judgeOne x (k + 1)) (first_refused judgeOne (k + 1) xs)
 
 -- What 5 and 6 ask (Refusal numbers).
@@ -215,20 +224,20 @@ bad_stiffness j = eqb j.stiffness 0 || ltb 32 j.stiffness
 
 -- 5, then 6, for the job numbered k: what bytes and values share (Refusal numbers).
 unfoldable pub judge_interval_and_stiffness : Job → ℕ → Verdict
-judge_interval_and_stiffness j k = refuse_if (bad_interval j) (Interval k) (refuse_if (bad_stiffness j) (Stiffness k) Sound)
+judge_interval_and_stiffness j k = refuse_if (bad_interval j) (Interval k) (refuse_if (bad_stiffness j) (Stiffness k) sound)
 
 -- 5, 6, then 8, for the job numbered k, given as values (Refusal numbers).
 unfoldable pub judge_job : Job → ℕ → Verdict
-judge_job j k = or_else (judge_interval_and_stiffness j k) (refuse_if (ltb 32767 j.«data» || ltb 32767 j.metadata) (Pages k) Sound)
+judge_job j k = or_else (judge_interval_and_stiffness j k) (refuse_if (ltb 32767 j.«data» || ltb 32767 j.metadata) (Pages k) sound)
 
 -- The verdict on a profile given as values: 3, then the first bad job (Refusal numbers, order).
 unfoldable pub verdict_of : Profile → Verdict
 verdict_of p = refuse_if (eqb p.n 0 || ltb 8 p.n) JobCount (first_refused judge_job 0 (jobs_of p))
 
--- An answer: the profile's own refusal, shown as `refused` does, and only then the rest (Refusal numbers, order).
-pub record ProfileFirst {A : Type 0} (p : Profile) (refused : Verdict → A) (Rest : A → Type 0) (r : A) : Type 0 where
-  pub own : (verdict_of p ≡ Sound → ⊥) → r ≡ refused (verdict_of p)
-  pub sound : verdict_of p ≡ Sound → Rest r
+-- An answer: the profile's own refusal, and only then the rest (Refusal numbers, order).
+pub record ProfileFirst {A : Type 0} (p : Profile) (Rest : Result A Refusal → Type 0) (r : Result A Refusal) : Type 0 where
+  pub own : {refusal : Refusal} → verdict_of p ≡ Err refusal → r ≡ Err refusal
+  pub rest : verdict_of p ≡ sound → Rest r
 
 -- The bytes of a row, be it a table's or a zone's (Packing).
 abbrev pub row_size : ℕ
@@ -236,12 +245,11 @@ row_size = 16
 
 -- The verdict on `count` rows for `size` lent bytes: 9 where there are none, then 11 (Refusal numbers, order).
 abbrev pub count_verdict : ℕ → ℕ → Verdict
-count_verdict count size = refuse_if (eqb count 0) NoPeriods (refuse_if (ltb (size / row_size) count) (Room count) Sound)
+count_verdict count size = refuse_if (eqb count 0) NoPeriods (refuse_if (ltb (size / row_size) count) (Room count) sound)
 
--- What an operation that puts bytes into a lent buffer may answer, and leave of one that held `old`: the profile's own refusal, else the
--- `next` verdict; beside a sound one the count, `many`, and the bytes `front` before the rest; beside a refusal 0, and every byte as it
--- was (The table; Refusal numbers).
-pub record PutsFront (p : Profile) (next : Verdict) (many : ℕ) (front old : List ℕ) (r : Counted) (new : List ℕ) : Type 0 where
-  pub verdict : r.verdict ≡ or_else (verdict_of p) next
-  pub count : r.count ≡ if_sound r.verdict many 0
-  pub bytes : new ≡ if_sound r.verdict (front ++ drop (length front) old) old
+-- What an operation that puts bytes into a lent buffer may answer, and leave of one that held `old`: the profile's own refusal, else
+-- that of the `next` verdict, and then every byte as it was; else the count, `many`, and the bytes `front` before the rest (The table;
+-- Refusal numbers).
+pub record PutsFront (p : Profile) (next : Verdict) (many : ℕ) (front old : List ℕ) (r : Result ℕ Refusal) (new : List ℕ) : Type 0 where
+  pub answer : r ≡ or_else (verdict_of p) (or_else next (Ok many))
+  pub bytes : new ≡ if_sound r (front ++ drop (length front) old) old

@@ -9,34 +9,37 @@ ghost use Rattle.model.specs.Model.{count_verdict};
 ghost use Rattle.model.specs.Testing.{allows};
 
 // Whole seconds: a period, or an end of a job's interval.
-#[derive(Clone, Copy)]
+#[derive(Clone, Copy, Debug, Default, PartialEq, Eq, PartialOrd, Ord)]
 pub struct Seconds(pub u32);
+
+// A period among numbers of 64 bits.
+impl From<Seconds> for u64 {
+    ghost from_gives = { λ t wide. wide ≡ t.0 };
+
+    fn from(t: Seconds) -> u64 {
+        t.0 as u64
+    }
+}
 
 // Flash pages per hour: a budget, a need or a rate. A small budget passes every range check of a period, so the two
 // are never the same type.
-#[derive(Clone, Copy)]
+#[derive(Clone, Copy, Debug, PartialEq, Eq, PartialOrd, Ord)]
 pub struct PagesPerHour(pub u32);
 
 // What a need has beyond its whole pages, in parts of a page per hour, of which the last period Tn makes one: a number below Tn,
 // and no page rate.
-#[derive(Clone, Copy)]
+#[derive(Clone, Copy, Debug, PartialEq, Eq, PartialOrd, Ord)]
 pub struct Remainder(pub u32);
 
 // A need without rounding: whole pages per hour, and the remainder over the last period.
-#[derive(Clone, Copy)]
+#[derive(Clone, Copy, Debug, PartialEq, Eq)]
 pub struct ExactNeed {
     pub whole: PagesPerHour,
     pub remainder: Remainder,
 }
 
-// What stands for a need beside a refusal.
-pub const ZERO_NEED: ExactNeed = ExactNeed {
-    whole: PagesPerHour(0),
-    remainder: Remainder(0),
-};
-
 // One write job. Every number that can be judged can be given.
-#[derive(Clone, Copy)]
+#[derive(Clone, Copy, Debug, Default, PartialEq, Eq)]
 pub struct Job {
     // The shortest and the longest period.
     pub lo: Seconds,
@@ -48,17 +51,16 @@ pub struct Job {
 }
 
 // A profile as values: the first n of the eight jobs, in their fixed order. Jobs beyond n are ignored.
-#[derive(Clone, Copy)]
+#[derive(Clone, Copy, Debug, PartialEq, Eq)]
 pub struct Profile {
     pub n: u32,
     pub jobs: [Job; 8],
 }
 
-// What an operation says of its input: sound, or why it refuses. A refusal's detail is what the variant holds; crate
-// `refusal` tells its number and its detail.
-#[derive(Clone, Copy)]
-pub enum Verdict {
-    Sound,
+// Why an operation refuses its input. A refusal's detail is what the variant holds; crate `refusal` tells its number and its
+// detail.
+#[derive(Clone, Copy, Debug, PartialEq, Eq)]
+pub enum Refusal {
     // 1 to 4: the profile as a whole.
     NoBytes,
     Edition,
@@ -79,15 +81,11 @@ pub enum Verdict {
     Periods(u32),
 }
 
+// What an operation says of its input alone.
+pub type Verdict = Result<(), Refusal>;
+
 // The bytes of a row, be it a table's or a zone's.
 pub const ROW_SIZE: usize = 16;
-
-// A verdict and a number: how many bytes or rows were written, or which row answers, counted from 1; 0 beside a refusal.
-#[derive(Clone, Copy)]
-pub struct Counted {
-    pub verdict: Verdict,
-    pub count: u64,
-}
 
 // The verdict on `count` rows for `size` lent bytes, past the profile's own: 9 where there are none, then 11.
 #[tactic(auto, unfolding(crate::specs::Model::refuse_if))]
@@ -95,13 +93,13 @@ pub fn judge_count(count: u64, size: usize) -> Verdict
     ensures { result ≡ count_verdict count size }
 {
     if count == 0 {
-        return Verdict::NoPeriods;
+        return Err(Refusal::NoPeriods);
     }
     let room = (size / ROW_SIZE) as u64;
     if room < count {
-        return Verdict::Room(count);
+        return Err(Refusal::Room(count));
     }
-    Verdict::Sound
+    Ok(())
 }
 
 // Whether a job allows a period after the period `before`; for the crates above, which have one.
@@ -110,18 +108,5 @@ pub fn allowed(j: Job, before: Seconds, t: Seconds) -> bool
     requires { 1 ≤ before.0 }
     ensures { result ≡ allows j before t }
 {
-    if t.0 < j.lo.0 {
-        return false;
-    }
-    if j.hi.0 < t.0 {
-        return false;
-    }
-    t.0 % before.0 == 0
-}
-
-// A period among numbers of 64 bits; for the crates above, which keep the ten numbers of a plan.
-pub fn wide(t: Seconds) -> u64
-    ensures { result ≡ t.0 }
-{
-    t.0 as u64
+    j.lo <= t && t <= j.hi && t.0 % before.0 == 0
 }

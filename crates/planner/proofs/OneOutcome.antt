@@ -3,10 +3,8 @@
 use mathlib.Core.Path.{◌≡◌, ◌∙◌, sym, ap}
 use mathlib.Core.List.{List}
 use Prim.Native.Nat.{ℕ}
-use lib.Seq.{sets}
-use Rattle.model.specs.declared.Verdict.{Verdict}
-use Rattle.model.specs.declared.Counted.{Counted}
-use Rattle.model.specs.Model.{if_sound}
+use Rattle.std.specs.Prelude.{Result}
+use Rattle.model.specs.declared.Refusal.{Refusal}
 use Rattle.profile_read.proofs.OneOutcome.{reads_one}
 use Rattle.profile_write.proofs.OneOutcome.{writes_one}
 use Rattle.score.proofs.OneOutcome.{scores_one}
@@ -15,7 +13,7 @@ use Rattle.zones.proofs.OneOutcome.{listed_one}
 use Rattle.table.proofs.OneOutcome.{built_one}
 use Rattle.table_lookup.proofs.OneOutcome.{locates_one}
 use Rattle.exchange.specs.Numbers.{result_of, counted_of}
-use Rattle.planner.specs.ForC.{CountsForC, LeavesForC}
+use Rattle.planner.specs.ForC.{CountsForC, LeavesForC, left_in}
 use Rattle.planner.proofs.charopleth_read.Reads as charopleth-read-contract
 use Rattle.planner.proofs.charopleth_write.Reads as charopleth-write-contract
 use Rattle.planner.proofs.charopleth_score.Reads as charopleth-score-contract
@@ -25,16 +23,15 @@ use Rattle.planner.proofs.charopleth_table.Reads as charopleth-table-contract
 use Rattle.planner.proofs.charopleth_lookup.Reads as charopleth-lookup-contract
 
 -- the same answer is told as the same number
-counts_alike : {One Other : Counted → Type 0} {r s : ℕ} (one : CountsForC One r) (other : CountsForC Other s) → one.answer ≡ other.answer → r ≡ s
+counts_alike : {One Other : Result ℕ Refusal → Type 0} {r s : ℕ} (one : CountsForC One r) (other : CountsForC Other s) → one.answer ≡ other.answer → r ≡ s
 counts_alike one other same = one.result ∙ ap counted_of same ∙ sym other.result
 
 -- and leaves the same numbers
-leaves_alike : {A : Type 0} {Allows : A → Type 0} {verdict : A → Verdict} {numbers : A → List ℕ} {old : List ℕ} {r s : ℕ} {new other-new : List ℕ}
-    (one : LeavesForC Allows verdict numbers old r new) (other : LeavesForC Allows verdict numbers old s other-new) →
-    one.answer ≡ other.answer → (r ≡ s) × (new ≡ other-new)
-leaves_alike {A} {verdict} {numbers} {old} one other same = (
-  one.result ∙ ap (λ (a : A). result_of (verdict a)) same ∙ sym other.result,
-  one.array ∙ ap (λ (a : A). if_sound (verdict a) (sets old 0 (numbers a)) old) same ∙ sym other.array,
+leaves_alike : {A : Type 0} {Allows : Result A Refusal → Type 0} {numbers : A → List ℕ} {old : List ℕ} {r s : ℕ} {new other-new : List ℕ}
+    (one : LeavesForC Allows numbers old r new) (other : LeavesForC Allows numbers old s other-new) → one.answer ≡ other.answer → (r ≡ s) × (new ≡ other-new)
+leaves_alike {A} {numbers = numbers} {old = old} one other same = (
+  one.result ∙ ap result_of same ∙ sym other.result,
+  one.array ∙ ap (λ (a : Result A Refusal). left_in numbers a old) same ∙ sym other.array,
 )
 
 pub charopleth_read_one_outcome : (κs : _) (a : _) (r s : ℕ) (e e' : _) →

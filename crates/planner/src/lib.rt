@@ -18,8 +18,8 @@ ghost use Rattle.exchange.specs.Numbers.{profile_in, numbers_of, eight_periods_i
 ghost use Rattle.planner.specs.ForC.{CountsForC, LeavesForC};
 
 pub use choose::{Choice, choose};
-pub use model::{Counted, ExactNeed, Job, PagesPerHour, Profile, Remainder, Seconds, Verdict};
-pub use profile_read::{Reading, read_profile};
+pub use model::{ExactNeed, Job, PagesPerHour, Profile, Refusal, Remainder, Seconds, Verdict};
+pub use profile_read::read_profile;
 pub use profile_write::write_profile;
 pub use refusal::{detail, number};
 pub use score::{Scored, score};
@@ -29,76 +29,69 @@ pub use zones::list_zones;
 
 // The values that a profile's bytes stand for, into 41 numbers.
 pub fn charopleth_read(bytes: &[u8], values: &mut [u32; 41]) -> u64
-    ensures { LeavesForC (Reads bytes.now) (λ a. a.verdict) (λ a. numbers_of a.profile) values.old result values.new }
+    ensures { LeavesForC (Reads bytes.now) numbers_of values.old result values.new }
 {
-    let r = profile_read::read_profile(bytes);
-    let v = r.verdict;
-    let Verdict::Sound = v else {
-        return exchange::result(v);
-    };
-    let p = r.profile;
-    exchange_put::put_values(p, values);
-    0
+    match profile_read::read_profile(bytes) {
+        Ok(p) => {
+            exchange_put::put_values(p, values);
+            0
+        }
+        Err(refusal) => exchange::result(Err(refusal)),
+    }
 }
 
 // A profile's bytes to the front of a lent room; the count of bytes.
 pub fn charopleth_write(n: u32, jobs: &[u32; 40], room: &mut [u8]) -> u64
     ensures { CountsForC (λ a. Writes (profile_in n jobs.now) room.old a room.new) result }
 {
-    let c = profile_write::write_profile(exchange::profile(n, jobs), room);
-    exchange::counted(c)
+    exchange::counted(profile_write::write_profile(exchange::profile(n, jobs), room))
 }
 
 // The need of given periods, whole pages and remainder, and their loss, into three numbers.
 pub fn charopleth_score(n: u32, jobs: &[u32; 40], periods: &[u32; 8], answer: &mut [u64; 3]) -> u64
-    ensures { LeavesForC (Scores (profile_in n jobs.now) (eight_periods_in periods.now)) (λ a. a.verdict) (λ a. score_of a.need a.loss) answer.old result answer.new }
+    ensures { LeavesForC (Scores (profile_in n jobs.now) (eight_periods_in periods.now)) (λ a. score_of a.need a.loss) answer.old result answer.new }
 {
-    let s = score::score(exchange::profile(n, jobs), exchange::as_periods(periods));
-    let v = s.verdict;
-    let Verdict::Sound = v else {
-        return exchange::result(v);
-    };
-    answer[0] = s.need.whole.0 as u64;
-    answer[1] = s.need.remainder.0 as u64;
-    answer[2] = s.loss;
-    0
+    match score::score(exchange::profile(n, jobs), exchange::as_periods(periods)) {
+        Ok(s) => {
+            answer[0] = u64::from(s.need.whole.0);
+            answer[1] = u64::from(s.need.remainder.0);
+            answer[2] = s.loss;
+            0
+        }
+        Err(refusal) => exchange::result(Err(refusal)),
+    }
 }
 
 // The best periods for a budget.
 pub fn charopleth_choose(n: u32, jobs: &[u32; 40], budget: u32, answer: &mut [u64; 11]) -> u64
-    ensures { LeavesForC (Chosen (profile_in n jobs.now) (pages_per_hour budget)) (λ a. a.verdict) (λ a. answer_of a.need a.loss a.periods) answer.old result answer.new }
+    ensures { LeavesForC (Chosen (profile_in n jobs.now) (pages_per_hour budget)) (λ a. answer_of a.need a.loss a.periods) answer.old result answer.new }
 {
-    let c = choose::choose(exchange::profile(n, jobs), PagesPerHour(budget));
-    let v = c.verdict;
-    let Verdict::Sound = v else {
-        return exchange::result(v);
-    };
-    let need = c.need;
-    let periods = c.periods;
-    exchange_put::put_answer(need, c.loss, periods, answer);
-    0
+    match choose::choose(exchange::profile(n, jobs), PagesPerHour(budget)) {
+        Ok(c) => {
+            exchange_put::put_answer(c.need, c.loss, c.periods, answer);
+            0
+        }
+        Err(refusal) => exchange::result(Err(refusal)),
+    }
 }
 
 // The rows of all zones to the front of a lent room; the count of rows.
 pub fn charopleth_zones(n: u32, jobs: &[u32; 40], room: &mut [u8]) -> u64
     ensures { CountsForC (λ a. Listed (profile_in n jobs.now) room.old a room.new) result }
 {
-    let c = zones::list_zones(exchange::profile(n, jobs), room);
-    exchange::counted(c)
+    exchange::counted(zones::list_zones(exchange::profile(n, jobs), room))
 }
 
 // The rows of the budget table to the front of a lent room; the count of rows.
 pub fn charopleth_table(n: u32, jobs: &[u32; 40], room: &mut [u8]) -> u64
     ensures { CountsForC (λ a. Built (profile_in n jobs.now) room.old a room.new) result }
 {
-    let c = table::build_table(exchange::profile(n, jobs), room);
-    exchange::counted(c)
+    exchange::counted(table::build_table(exchange::profile(n, jobs), room))
 }
 
 // The number, counted from 1, of the row of a lent table that answers a budget.
 pub fn charopleth_lookup(n: u32, jobs: &[u32; 40], table: &[u8], budget: u32) -> u64
     ensures { CountsForC (Locates (profile_in n jobs.now) table.now (pages_per_hour budget)) result }
 {
-    let c = table_lookup::locate(exchange::profile(n, jobs), table, PagesPerHour(budget));
-    exchange::counted(c)
+    exchange::counted(table_lookup::locate(exchange::profile(n, jobs), table, PagesPerHour(budget)))
 }

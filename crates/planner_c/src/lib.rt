@@ -18,7 +18,7 @@ ghost use Rattle.planner.specs.ForC.{CountsForC, LeavesForC};
 // The values that a profile's bytes stand for, into 41 numbers.
 #[unsafe(no_mangle)]
 pub extern "C" fn charopleth_read(bytes: &[u8], values: &mut [u32; 41]) -> u64
-    ensures { LeavesForC (Reads bytes.now) (λ a. a.verdict) (λ a. numbers_of a.profile) values.old result values.new }
+    ensures { LeavesForC (Reads bytes.now) numbers_of values.old result values.new }
 {
     planner::charopleth_read(bytes, values)
 }
@@ -39,7 +39,7 @@ pub extern "C" fn charopleth_score(
     periods: &[u32; 8],
     answer: &mut [u64; 3],
 ) -> u64
-    ensures { LeavesForC (Scores (profile_in n jobs.now) (eight_periods_in periods.now)) (λ a. a.verdict) (λ a. score_of a.need a.loss) answer.old result answer.new }
+    ensures { LeavesForC (Scores (profile_in n jobs.now) (eight_periods_in periods.now)) (λ a. score_of a.need a.loss) answer.old result answer.new }
 {
     planner::charopleth_score(n, jobs, periods, answer)
 }
@@ -52,7 +52,7 @@ pub extern "C" fn charopleth_choose(
     budget: u32,
     answer: &mut [u64; 11],
 ) -> u64
-    ensures { LeavesForC (Chosen (profile_in n jobs.now) (pages_per_hour budget)) (λ a. a.verdict) (λ a. answer_of a.need a.loss a.periods) answer.old result answer.new }
+    ensures { LeavesForC (Chosen (profile_in n jobs.now) (pages_per_hour budget)) (λ a. answer_of a.need a.loss a.periods) answer.old result answer.new }
 {
     planner::charopleth_choose(n, jobs, budget, answer)
 }

@@ -1,7 +1,7 @@
 -- Any two outcomes that a function's own contract allows for the same arguments are equal: `Post` is what the checker makes of its
 -- clauses, so a contract that says less breaks this. Here each contract says which value the answer is. Assumes nothing.
 use mathlib.Core.Path.{◌≡◌, ◌∙◌, sym}
-use Rattle.model.specs.declared.Verdict.{Verdict}
+use Rattle.model.specs.Model.{Verdict}
 use Rattle.profile_judge.proofs.judge_interval_and_stiffness.Reads as judge-interval-and-stiffness-contract
 use Rattle.profile_judge.proofs.judge.Reads as judge-contract
 

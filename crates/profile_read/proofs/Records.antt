@@ -9,9 +9,7 @@ use native.Mathlib.Omega.{arith}
 use lib.ListN.{length, get_or, take, drop, set, replicate, length-map}
 use lib.Seq.{drop-drop, set_at, append_snoc}
 use Rattle.model.specs.declared.Job.{Job}
-use Rattle.model.specs.declared.Verdict.{Verdict}
-use Rattle.model.specs.declared.Verdict.TheVariants.{Sound}
-use Rattle.model.specs.Model.{no_job, or_else, first_refused, padded}
+use Rattle.model.specs.Model.{Verdict, sound, no_job, or_else, first_refused, padded}
 use Rattle.codec.specs.Packing.{bits, pack, unpack, recut}
 use Rattle.codec.specs.Layout.{job_widths, byte_widths}
 use Rattle.profile_read.specs.Reading.{header_of, count_of, records_in, job_of, judge_record}
@@ -53,7 +51,7 @@ pub one_judged : (bytes : List ℕ) (k n : ℕ) → k < n →
 unfolding first_refused judge_record
 one_judged bytes k n h = ap (first_refused judge_record k) (records_step bytes k n h)
 
-pub all_judged : (bytes : List ℕ) (k n : ℕ) → n ≤ k → judged_from bytes k n ≡ Sound
+pub all_judged : (bytes : List ℕ) (k n : ℕ) → n ≤ k → judged_from bytes k n ≡ sound
 unfolding first_refused
 all_judged bytes k n h = ap (first_refused judge_record k) (records_end bytes k n h)
 

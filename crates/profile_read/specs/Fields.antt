@@ -2,9 +2,8 @@
 -- Assumes nothing.
 use Rattle.std.specs.Prelude.{List, map, not, ℕ, ◌+◌, ◌*◌, get_or, take, drop, eqb}
 use Rattle.model.specs.declared.Profile.{Profile}
-use Rattle.model.specs.declared.Verdict.{Verdict}
-use Rattle.model.specs.declared.Verdict.TheVariants.{Sound, Spare}
-use Rattle.model.specs.Model.{refuse_if, or_else, judge_interval_and_stiffness, padded, no_job}
+use Rattle.model.specs.declared.Refusal.TheVariants.{Spare}
+use Rattle.model.specs.Model.{Verdict, sound, refuse_if, or_else, judge_interval_and_stiffness, padded, no_job}
 use Rattle.codec.specs.Packing.{recut}
 use Rattle.codec.specs.Layout.{job_widths, byte_widths}
 use Rattle.profile_read.specs.declared.Record.{Record}
@@ -24,7 +23,7 @@ fields_at bytes k = recut (byte_widths 8) job_widths (take 8 (drop (1 + 8 * k) b
 
 -- `judge_record` of a record that is cut already.
 abbrev pub judge_cut : Record → ℕ → Verdict
-judge_cut r k = or_else (judge_interval_and_stiffness r.job k) (refuse_if (not (eqb r.spare 0)) (Spare k) Sound)
+judge_cut r k = or_else (judge_interval_and_stiffness r.job k) (refuse_if (not (eqb r.spare 0)) (Spare k) sound)
 
 -- The values of n records.
 abbrev pub profile_of : List ℕ → ℕ → Profile

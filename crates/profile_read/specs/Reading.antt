@@ -1,14 +1,13 @@
 -- What bytes stand for as a profile, and what reading them answers (document 01, Packing and Refusal numbers): the layout
 -- of codec, cut back into its fields. Cited by public contracts. Assumes nothing.
-use Rattle.std.specs.Prelude.{◌≡◌, List, [], ◌∷◌, map, not, ◌||◌, ℕ, zero, suc, length, get_or, take, drop, eqb, ltb}
+use Rattle.std.specs.Prelude.{◌≡◌, Result, Ok, List, [], ◌∷◌, map, not, ◌||◌, ℕ, zero, suc, length, get_or, take, drop, eqb, ltb}
 use Rattle.model.specs.declared.Job.{Job}
 use Rattle.model.specs.declared.Profile.{Profile}
-use Rattle.model.specs.declared.Verdict.{Verdict}
-use Rattle.model.specs.declared.Verdict.TheVariants.{Sound, NoBytes, Edition, JobCount, Length, Spare}
-use Rattle.model.specs.Model.{seconds, no_job, refuse_if, or_else, if_sound, first_refused, judge_interval_and_stiffness, padded}
+use Rattle.model.specs.declared.Refusal.{Refusal}
+use Rattle.model.specs.declared.Refusal.TheVariants.{NoBytes, Edition, JobCount, Length, Spare}
+use Rattle.model.specs.Model.{Verdict, sound, seconds, no_job, refuse_if, or_else, first_refused, judge_interval_and_stiffness, padded}
 use Rattle.codec.specs.Packing.{recut}
 use Rattle.codec.specs.Layout.{header_widths, job_widths, byte_widths, profile_length}
-use Rattle.profile_read.specs.declared.Reading.{Reading}
 
 -- The two fields of the first byte, edition and n; and that n.
 unfoldable pub header_of : List ℕ → List ℕ
@@ -30,7 +29,7 @@ job_of fields = record { lo = seconds (get_or fields 0 0); hi = seconds (get_or 
 
 -- 5, 6, then 7, for the record numbered k; its last field holds the spare bits.
 unfoldable pub judge_record : List ℕ → ℕ → Verdict
-judge_record fields k = or_else (judge_interval_and_stiffness (job_of fields) k) (refuse_if (not (eqb (get_or fields 5 0) 0)) (Spare k) Sound)
+judge_record fields k = or_else (judge_interval_and_stiffness (job_of fields) k) (refuse_if (not (eqb (get_or fields 5 0) 0)) (Spare k) sound)
 
 -- 1, 2, 3, 4: the bytes as a whole.
 unfoldable pub judge_header : List ℕ → Verdict
@@ -38,7 +37,7 @@ judge_header bytes =
     refuse_if (eqb (length bytes) 0) NoBytes
     (refuse_if (not (eqb (get_or (header_of bytes) 0 0) 1)) Edition
     (refuse_if (eqb (count_of bytes) 0 || ltb 8 (count_of bytes)) JobCount
-    (refuse_if (not (eqb (length bytes) (profile_length (count_of bytes)))) Length Sound)))
+    (refuse_if (not (eqb (length bytes) (profile_length (count_of bytes)))) Length sound)))
 
 -- The verdict on a profile given as bytes: the whole, then the first bad record.
 unfoldable pub verdict_of_bytes : List ℕ → Verdict
@@ -48,10 +47,10 @@ verdict_of_bytes bytes = or_else (judge_header bytes) (first_refused judge_recor
 abbrev pub values_of : List ℕ → Profile
 values_of bytes = record { n = count_of bytes; jobs = padded no_job (map job_of (records_of bytes)) }
 
+-- A profile of zeros.
 abbrev pub no_profile : Profile
 no_profile = record { n = 0; jobs = padded no_job [] }
 
--- What `read_profile` may answer to these bytes.
-pub record Reads (bytes : List ℕ) (r : Reading) : Type 0 where
-  pub verdict : r.verdict ≡ verdict_of_bytes bytes
-  pub profile : r.profile ≡ if_sound (verdict_of_bytes bytes) (values_of bytes) no_profile
+-- What `read_profile` may answer to these bytes: the values, unless they are refused.
+abbrev pub Reads : List ℕ → Result Profile Refusal → Type 0
+Reads bytes r = r ≡ or_else (verdict_of_bytes bytes) (Ok (values_of bytes))

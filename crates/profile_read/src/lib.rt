@@ -8,17 +8,10 @@ ghost use Rattle.std.specs.Prelude.{◌≡◌, ◌+◌, ◌≤◌, ◌<◌, leng
 ghost use Rattle.model.specs.Model.{no_job, first_refused};
 ghost use Rattle.codec.specs.Packing.{unpack};
 ghost use Rattle.codec.specs.Layout.{job_widths, profile_length};
-ghost use Rattle.profile_read.specs.Reading.{count_of, records_in, judge_record, judge_header, no_profile, Reads};
+ghost use Rattle.profile_read.specs.Reading.{count_of, records_in, judge_record, judge_header, Reads, no_profile};
 ghost use Rattle.profile_read.specs.Fields.{record_of, fields_at, judge_cut, profile_of};
 
-use model::{Job, Profile, Seconds, Verdict};
-
-// What reading answers: the values, all zeros beside a refusal.
-#[derive(Clone, Copy)]
-pub struct Reading {
-    pub verdict: Verdict,
-    pub profile: Profile,
-}
+use model::{Job, Profile, Refusal, Seconds, Verdict};
 
 // A job's record as its bits have it.
 #[derive(Clone, Copy)]
@@ -28,29 +21,14 @@ struct Record {
 }
 
 // The values that bytes stand for, or why they are refused: 1 to 4 for the whole, else 5, 6 or 7 for the first bad job.
-#[tactic(auto, using(crate::proofs::Headers::sound_header, model::proofs::Verdicts::sound_of_zero), unfolding(crate::specs::Reading::verdict_of_bytes, model::specs::Model::or_else, model::specs::Model::refuse_if, model::specs::Model::if_sound))]
-pub fn read_profile(bytes: &[u8]) -> Reading
+#[tactic(auto, using(crate::proofs::Headers::some_byte, crate::proofs::Headers::eight_jobs, crate::proofs::Headers::all_records), unfolding(crate::specs::Reading::verdict_of_bytes, model::specs::Model::or_else))]
+pub fn read_profile(bytes: &[u8]) -> Result<Profile, Refusal>
     ensures { Reads bytes.now result }
 {
-    let v = judge_header(bytes);
-    let Verdict::Sound = v else {
-        return Reading {
-            verdict: v,
-            profile: no_profile(),
-        };
-    };
+    judge_header(bytes)?;
     let n = job_count(bytes);
-    let w = judge_records(bytes, n);
-    let Verdict::Sound = w else {
-        return Reading {
-            verdict: w,
-            profile: no_profile(),
-        };
-    };
-    Reading {
-        verdict: w,
-        profile: values(bytes, n),
-    }
+    judge_records(bytes, n)?;
+    Ok(values(bytes, n))
 }
 
 // 1, 2, 3, 4: the bytes as a whole.
@@ -58,23 +36,20 @@ pub fn read_profile(bytes: &[u8]) -> Reading
 fn judge_header(bytes: &[u8]) -> Verdict
     ensures { result ≡ judge_header bytes.now }
 {
-    if bytes.len() == 0 {
-        return Verdict::NoBytes;
+    if bytes.is_empty() {
+        return Err(Refusal::NoBytes);
     }
     if bytes[0] / 16 != 1 {
-        return Verdict::Edition;
+        return Err(Refusal::Edition);
     }
     let n = job_count(bytes);
-    if n == 0 {
-        return Verdict::JobCount;
-    }
-    if 8 < n {
-        return Verdict::JobCount;
+    if n == 0 || 8 < n {
+        return Err(Refusal::JobCount);
     }
     if bytes.len() != 1 + 8 * n {
-        return Verdict::Length;
+        return Err(Refusal::Length);
     }
-    Verdict::Sound
+    Ok(())
 }
 
 // n, which the first byte holds below the edition.
@@ -83,40 +58,31 @@ fn job_count(bytes: &[u8]) -> usize
     requires { 1 ≤ length bytes.now }
     ensures { (result ≡ count_of bytes.now) × (result < 16) }
 {
-    (codec::wide_byte(bytes[0]) % 16) as usize
+    usize::from(bytes[0] % 16)
 }
 
 // The first refusal among n records.
-#[tactic(auto, using(crate::proofs::Records::one_judged, crate::proofs::Records::all_judged, model::proofs::Verdicts::sound_of_zero), unfolding(model::specs::Model::or_else, model::specs::Model::refuse_if))]
+#[tactic(auto, using(crate::proofs::Records::one_judged, crate::proofs::Records::all_judged), unfolding(model::specs::Model::or_else, model::specs::Model::refuse_if))]
 fn judge_records(bytes: &[u8], n: usize) -> Verdict
     requires { (n ≤ 8) × (profile_length n ≤ length bytes.now) }
     ensures { result ≡ first_refused judge_record 0 (records_in n (drop 1 bytes.now)) }
 {
-    let mut k: usize = 0;
-    while k < n {
-        let v = judge_record(record_at(bytes, k), (k + 1) as u32);
-        let Verdict::Sound = v else {
-            return v;
-        };
-        k += 1;
+    for k in 0..n {
+        judge_record(record_at(bytes, k), (k + 1) as u32)?;
     }
-    Verdict::Sound
+    Ok(())
 }
 
 // 5, 6 and 7 for the record numbered k.
-#[tactic(auto, using(model::proofs::Verdicts::sound_of_zero), unfolding(model::specs::Model::or_else, model::specs::Model::refuse_if))]
+#[tactic(auto, unfolding(model::specs::Model::or_else, model::specs::Model::refuse_if))]
 fn judge_record(r: Record, k: u32) -> Verdict
     ensures { result ≡ judge_cut r k }
 {
-    let j = r.job;
-    let v = profile_judge::judge_interval_and_stiffness(j, k);
-    let Verdict::Sound = v else {
-        return v;
-    };
+    profile_judge::judge_interval_and_stiffness(r.job, k)?;
     if r.spare != 0 {
-        return Verdict::Spare(k);
+        return Err(Refusal::Spare(k));
     }
-    Verdict::Sound
+    Ok(())
 }
 
 // The values of n records, with zeros beyond them.
@@ -125,36 +91,20 @@ fn values(bytes: &[u8], n: usize) -> Profile
     requires { (n ≤ 8) × (profile_length n ≤ length bytes.now) }
     ensures { result ≡ profile_of bytes.now n }
 {
-    let mut jobs = [no_job(); 8];
-    let mut k: usize = 0;
-    while k < n {
-        let r = record_at(bytes, k);
-        let j = r.job;
-        jobs[k] = j;
-        k += 1;
+    let mut jobs = no_profile().jobs;
+    for k in 0..n {
+        jobs[k] = record_at(bytes, k).job;
     }
     Profile { n: n as u32, jobs }
 }
 
-// The zeros that stand for a profile beside a refusal.
+// A profile of zeros: what a profile has beyond its last job.
 pub fn no_profile() -> Profile
     ensures { result ≡ no_profile }
 {
     Profile {
         n: 0,
-        jobs: [no_job(); 8],
-    }
-}
-
-fn no_job() -> Job
-    ensures { result ≡ no_job }
-{
-    Job {
-        lo: Seconds(0),
-        hi: Seconds(0),
-        data: 0,
-        metadata: 0,
-        stiffness: 0,
+        jobs: [Job::default(); 8],
     }
 }
 

@@ -7,24 +7,24 @@ use native.Mathlib.Nat.{suc-ne-zero}
 use native.Mathlib.Omega.{arith}
 use lib.ListN.{length, get_or, take, drop, length-map, take-append-drop, length-drop}
 use lib.Seq.{take_at, drop_at}
+use lib.Dec.{ltb}
 use borrow.Author.Tests.{eq-eqb, ne_eqb, le-ltb, eqb-true, not-false}
+use Rattle.std.specs.Prelude.{Result, Ok}
 use Rattle.model.specs.declared.Job.{Job}
 use Rattle.model.specs.declared.Profile.{Profile}
-use Rattle.model.specs.declared.Counted.{Counted}
-use Rattle.model.specs.declared.Verdict.{Verdict}
-use Rattle.model.specs.declared.Verdict.TheVariants.{Sound}
-use Rattle.model.specs.Model.{no_job, entries, jobs_of, refuse_if, if_sound, first_refused, judge_interval_and_stiffness, verdict_of, padded}
+use Rattle.model.specs.declared.Refusal.{Refusal}
+use Rattle.model.specs.declared.Refusal.TheVariants.{Room}
+use Rattle.model.specs.Model.{sound, no_job, entries, jobs_of, refuse_if, or_else, if_sound, first_refused, judge_interval_and_stiffness, verdict_of, padded}
 use Rattle.model.specs.Valid.{ValidJob, ValidJobs, Valid}
 use Rattle.model.proofs.Entries.{length_entries, entries_front}
 use Rattle.model.proofs.Validity.{in_range, in_range_sound, sound_valid, valid_sound}
-use Rattle.model.proofs.Verdicts.{test_passed, both_sound, sound_passes, beside_sound}
+use Rattle.model.proofs.Verdicts.{test_passed, both_sound, sound_passes}
 use Rattle.codec.specs.Packing.{recut}
 use Rattle.codec.specs.Layout.{header_widths, job_widths, byte_widths, profile_length, fields_of, record_bytes, profile_bytes}
 use Rattle.codec.specs.Fit.{Within, Bytes}
 use Rattle.codec.proofs.Bytes.{within_split}
 use Rattle.codec.proofs.Packing.{recut_back, recut_within, length_recut}
-use Rattle.profile_read.specs.declared.Reading.{Reading}
-use Rattle.profile_read.specs.Reading.{header_of, count_of, records_in, records_of, job_of, judge_record, judge_header, verdict_of_bytes, values_of, no_profile, Reads}
+use Rattle.profile_read.specs.Reading.{header_of, count_of, records_in, records_of, job_of, judge_record, judge_header, verdict_of_bytes, values_of, Reads}
 use Rattle.profile_read.specs.Fields.{edition_of}
 use Rattle.profile_read.proofs.Headers.{SoundHeader, sound_header}
 use Rattle.profile_read.proofs.Records.{header_fields, edition_is, count_is, length_records}
@@ -55,11 +55,11 @@ jobs_back [] = refl
 jobs_back (j ∷ js) = ap (λ (l : List Job). j ∷ l) (jobs_back js)
 
 -- a valid job's fields pass 5, 6 and 7
-fields_sound : (j : Job) (k : ℕ) → ValidJob j → judge_record (fields_of j) k ≡ Sound
+fields_sound : (j : Job) (k : ℕ) → ValidJob j → judge_record (fields_of j) k ≡ sound
 unfolding judge_record refuse_if
 fields_sound j k v = sound_passes {v = judge_interval_and_stiffness j k} _ refl (in_range_sound j k (omega arith))
 
-all_fields_sound : (js : List Job) (k : ℕ) → ValidJobs js → first_refused judge_record k (map fields_of js) ≡ Sound
+all_fields_sound : (js : List Job) (k : ℕ) → ValidJobs js → first_refused judge_record k (map fields_of js) ≡ sound
 unfolding first_refused
 all_fields_sound [] k v = refl
 all_fields_sound (j ∷ js) k v = sound_passes {v = judge_record (fields_of j) (k + 1)} _ refl (fields_sound j (k + 1) v.0) ∙ all_fields_sound js (k + 1) v.1
@@ -91,7 +91,7 @@ module _ (p : Profile) (v : Valid p) where
       ∙ ap (records_in (length (jobs_of p))) (drop_at head (record_bytes (jobs_of p)) 1 length_head)
       ∙ records_back (jobs_of p) v.jobs
 
-  header_sound : judge_header (profile_bytes p) ≡ Sound
+  header_sound : judge_header (profile_bytes p) ≡ sound
   unfolding judge_header refuse_if
   header_sound =
       let size = length_profile_bytes p in
@@ -104,7 +104,7 @@ module _ (p : Profile) (v : Valid p) where
         eq-eqb (length (profile_bytes p)) (profile_length p.n) size,
       )
 
-  bytes_accepted : verdict_of_bytes (profile_bytes p) ≡ Sound
+  bytes_accepted : verdict_of_bytes (profile_bytes p) ≡ sound
   unfolding verdict_of_bytes
   bytes_accepted =
       sound_passes {v = judge_header (profile_bytes p)} _ refl header_sound
@@ -115,20 +115,20 @@ module _ (p : Profile) (v : Valid p) where
   values_back = λ i. record { n = count_back i; jobs = padded no_job ((ap (map job_of) all_records_back ∙ jobs_back (jobs_of p)) i) }
 
 -- what was written reads back as the same values, with zeros beyond n
-pub written_reads_back : (p : Profile) (old : List ℕ) {w : Counted} {new : List ℕ} {r : Reading} → Writes p old w new → w.verdict ≡ Sound →
-    Reads (take w.count new) r → (r.verdict ≡ Sound) × (r.profile ≡ kept p)
+pub written_reads_back : (p : Profile) (old : List ℕ) {w : Result ℕ Refusal} {count : ℕ} {new : List ℕ} {r : Result Profile Refusal} → Writes p old w new → w ≡ Ok count →
+    Reads (take count new) r → r ≡ Ok (kept p)
 unfolding if_sound
-written_reads_back p old {w} {new} {r} written sound read =
-    let v = sound_valid p (both_sound (verdict_of p) (sym written.verdict ∙ sound)).0 in
-    let own = profile_length p.n in
+written_reads_back p old {w} {count} {new} {r} written done read =
+    let passed = both_sound (verdict_of p) (sym written.answer ∙ done) in
+    let v = sound_valid p passed.0 in
+    let own : profile_length p.n ≡ count = let told = (both_sound _ passed.1).1 in cc in
     let rest = drop (length (profile_bytes p)) old in
-    let count : w.count ≡ own = written.count ∙ sym (beside_sound own 0 (sym sound)) in
-    let bytes : new ≡ profile_bytes p ++ rest = written.bytes ∙ sym (beside_sound _ old (sym sound)) in
-    let front : take w.count new ≡ profile_bytes p = ap₂ take count bytes ∙ take_at (profile_bytes p) rest own (length_profile_bytes p) in
-    let accepted : verdict_of_bytes (take w.count new) ≡ Sound = ap verdict_of_bytes front ∙ bytes_accepted p v in (
-      read.verdict ∙ accepted,
-      read.profile ∙ ap (λ (x : Verdict). if_sound x (values_of (take w.count new)) no_profile) accepted ∙ ap values_of front ∙ values_back p v,
-    )
+    let bytes : new ≡ profile_bytes p ++ rest = written.bytes ∙ ap (λ (a : Result ℕ Refusal). if_sound a (profile_bytes p ++ rest) old) done in
+    let front : take count new ≡ profile_bytes p = ap₂ take (sym own) bytes ∙ take_at (profile_bytes p) rest (profile_length p.n) (length_profile_bytes p) in
+    read
+    ∙ ap (λ (l : List ℕ). or_else (verdict_of_bytes l) (Ok (values_of l))) front
+    ∙ sound_passes {v = verdict_of_bytes (profile_bytes p)} _ refl (bytes_accepted p v)
+    ∙ ap (λ (q : Profile). Ok q) (values_back p v)
 
 -- Read, then written.
 
@@ -149,21 +149,21 @@ six (a ∷ b ∷ c ∷ d ∷ e ∷ f ∷ []) h = record { data_to = omega arith;
 six (a ∷ b ∷ c ∷ d ∷ e ∷ f ∷ g ∷ fs) h = absurd h.1.1.1.1.1.1
 
 -- a record that passes 5, 6 and 7 is a valid job's, and its fields are that job's
-record_valid : (fs : List ℕ) (k : ℕ) → Within job_widths fs → judge_record fs k ≡ Sound → ValidJob (job_of fs)
+record_valid : (fs : List ℕ) (k : ℕ) → Within job_widths fs → judge_record fs k ≡ sound → ValidJob (job_of fs)
 unfolding judge_record
 record_valid fs k h e =
     let r = in_range (job_of fs) k (both_sound (judge_interval_and_stiffness (job_of fs) k) e).0 in
     let s = six fs h in
     omega arith
 
-record_kept : (fs : List ℕ) (k : ℕ) → Within job_widths fs → judge_record fs k ≡ Sound → fields_of (job_of fs) ≡ fs
+record_kept : (fs : List ℕ) (k : ℕ) → Within job_widths fs → judge_record fs k ≡ sound → fields_of (job_of fs) ≡ fs
 unfolding judge_record
 record_kept fs k h e =
-    let spare : get_or fs 5 0 ≡ 0 = eqb-true _ _ (not-false _ (test_passed _ _ _ tt (both_sound (judge_interval_and_stiffness (job_of fs) k) e).1).0) in
+    let spare : get_or fs 5 0 ≡ 0 = eqb-true _ _ (not-false _ (test_passed _ _ _ (both_sound (judge_interval_and_stiffness (job_of fs) k) e).1).0) in
     ap (λ (x : ℕ). get_or fs 0 0 ∷ get_or fs 1 0 ∷ get_or fs 2 0 ∷ get_or fs 3 0 ∷ get_or fs 4 0 ∷ x ∷ []) (sym spare) ∙ (six fs h).all
 
 -- records that are all sound are written back the same
-records_kept : (n : ℕ) (bytes : List ℕ) (k : ℕ) → length bytes ≡ 8 * n → Within (byte_widths (8 * n)) bytes → first_refused judge_record k (records_in n bytes) ≡ Sound
+records_kept : (n : ℕ) (bytes : List ℕ) (k : ℕ) → length bytes ≡ 8 * n → Within (byte_widths (8 * n)) bytes → first_refused judge_record k (records_in n bytes) ≡ sound
     → ValidJobs (map job_of (records_in n bytes)) × (record_bytes (map job_of (records_in n bytes)) ≡ bytes)
 unfolding first_refused records_in record_bytes flat_map
 records_kept zero [] k size h e = (tt, refl)
@@ -181,10 +181,10 @@ records_kept (suc n) bytes k size h e =
     ((record_valid fs (k + 1) w both.0, rest.0), ap₂ ◌++◌ front rest.1 ∙ take-append-drop 8 bytes)
 
 -- accepted bytes stand for a valid profile, whose bytes they are
-module _ (bytes : List ℕ) (h : Bytes bytes) (sound : verdict_of_bytes bytes ≡ Sound) where
-  both : (judge_header bytes ≡ Sound) × (first_refused judge_record 0 (records_of bytes) ≡ Sound)
+module _ (bytes : List ℕ) (h : Bytes bytes) (accepted : verdict_of_bytes bytes ≡ sound) where
+  both : (judge_header bytes ≡ sound) × (first_refused judge_record 0 (records_of bytes) ≡ sound)
   unfolding verdict_of_bytes
-  both = both_sound (judge_header bytes) sound
+  both = both_sound (judge_header bytes) accepted
 
   header : SoundHeader bytes
   header = sound_header bytes both.0
@@ -218,20 +218,26 @@ module _ (bytes : List ℕ) (h : Bytes bytes) (sound : verdict_of_bytes bytes �
   bytes_kept = ap₂ ◌++◌ header_kept (ap record_bytes jobs_read_lem ∙ kept_records.1) ∙ take-append-drop 1 bytes
 
 -- accepted bytes are written back the same
-pub read_writes_back : (bytes : List ℕ) (old : List ℕ) {r : Reading} {w : Counted} {new : List ℕ} → Bytes bytes → Reads bytes r → r.verdict ≡ Sound →
-    length bytes ≤ length old → Writes r.profile old w new → (w.verdict ≡ Sound) × (w.count ≡ length bytes) × (take w.count new ≡ bytes)
+pub read_writes_back : (bytes : List ℕ) (old : List ℕ) {r : Result Profile Refusal} {p : Profile} {w : Result ℕ Refusal} {new : List ℕ} → Bytes bytes → Reads bytes r → r ≡ Ok p →
+    length bytes ≤ length old → Writes p old w new → (w ≡ Ok (length bytes)) × (take (length bytes) new ≡ bytes)
 unfolding if_sound refuse_if
-read_writes_back bytes old {r} {w} {new} h read sound room written =
-    let accepted : verdict_of_bytes bytes ≡ Sound = sym read.verdict ∙ sound in
-    let values : r.profile ≡ values_of bytes = read.profile ∙ ap (λ (x : Verdict). if_sound x (values_of bytes) no_profile) accepted in
-    let n = count_of bytes in
+read_writes_back bytes old {r} {p} {w} {new} h read done room written =
+    let passed = both_sound (verdict_of_bytes bytes) (sym read ∙ done) in
+    let accepted = passed.0 in
+    let values : p ≡ values_of bytes = let told = passed.1 in cc in
     let size = (header bytes h accepted).size in
-    let wrote = subst (λ (p : Profile). Writes p old w new) values written in
+    let wrote = subst (λ (q : Profile). Writes q old w new) values written in
     let valid = valid_sound (values_of bytes) (values_valid bytes h accepted) in
-    let verdict : w.verdict ≡ Sound =
-    wrote.verdict ∙ sound_passes {v = verdict_of (values_of bytes)} _ refl valid ∙ simp (le-ltb (length old) (profile_length n) (omega arith)) in
-    let count : w.count ≡ length bytes = wrote.count ∙ sym (beside_sound (profile_length n) 0 (sym verdict)) ∙ sym size in
+    let own = profile_length (count_of bytes) in
+    let fits : refuse_if (ltb (length old) own) (Room own) sound ≡ sound = simp (le-ltb (length old) own (omega arith)) in
+    let answer : w ≡ Ok (length bytes) =
+    wrote.answer
+    ∙ sound_passes {v = verdict_of (values_of bytes)} _ refl valid
+    ∙ sound_passes {v = refuse_if (ltb (length old) own) (Room own) sound} _ refl fits
+    ∙ ap (λ (k : ℕ). Ok k) (sym size) in
     let rest = drop (length bytes) old in
     let front : new ≡ bytes ++ rest =
-    wrote.bytes ∙ sym (beside_sound _ old (sym verdict)) ∙ ap (λ (l : List ℕ). l ++ drop (length l) old) (bytes_kept bytes h accepted) in
-    (verdict, count, ap₂ take count front ∙ take_at bytes rest (length bytes) refl)
+    wrote.bytes
+    ∙ ap (λ (a : Result ℕ Refusal). if_sound a (profile_bytes (values_of bytes) ++ drop (length (profile_bytes (values_of bytes))) old) old) answer
+    ∙ ap (λ (l : List ℕ). l ++ drop (length l) old) (bytes_kept bytes h accepted) in
+    (answer, ap (take (length bytes)) front ∙ take_at bytes rest (length bytes) refl)

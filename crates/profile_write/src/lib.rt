@@ -10,47 +10,43 @@ ghost use Rattle.codec.specs.Packing.{pack};
 ghost use Rattle.codec.specs.Layout.{job_widths, profile_length, fields_of, profile_bytes};
 ghost use Rattle.profile_write.specs.Writing.{Writes};
 
-use model::{Counted, Job, Profile, Verdict};
+use model::{Job, Profile, Refusal};
 
 // Writes a profile's bytes to the front of `out`, or refuses: the profile's own refusal, then 11 with the bytes needed.
-#[tactic(auto, using(model::proofs::Verdicts::sound_of_zero, crate::proofs::Records::length_profile_bytes), unfolding(model::specs::Model::or_else, model::specs::Model::refuse_if, model::specs::Model::if_sound))]
-pub fn write_profile(p: Profile, out: &mut [u8]) -> Counted
+#[tactic(auto, using(model::proofs::Validity::judged_valid), unfolding(model::specs::Model::or_else, model::specs::Model::if_sound))]
+pub fn write_profile(p: Profile, out: &mut [u8]) -> Result<u64, Refusal>
     ensures { Writes p out.old result out.new }
 {
-    let v = profile_judge::judge(p);
-    let Verdict::Sound = v else {
-        return Counted {
-            verdict: v,
-            count: 0,
-        };
+    let Err(refusal) = profile_judge::judge(p) else {
+        return write_sound(p, out);
     };
+    Err(refusal)
+}
+
+// The same for a sound profile.
+#[tactic(auto, using(model::proofs::Validity::valid_sound, crate::proofs::Records::length_profile_bytes), unfolding(model::specs::Model::or_else, model::specs::Model::refuse_if, model::specs::Model::if_sound))]
+fn write_sound(p: Profile, out: &mut [u8]) -> Result<u64, Refusal>
+    requires { Valid p }
+    ensures { Writes p out.old result out.new }
+{
     let size = 1 + 8 * (p.n as usize);
     if out.len() < size {
-        return Counted {
-            verdict: Verdict::Room(size as u64),
-            count: 0,
-        };
+        return Err(Refusal::Room(size as u64));
     }
     fill(p, out);
-    Counted {
-        verdict: Verdict::Sound,
-        count: size as u64,
-    }
+    Ok(size as u64)
 }
 
 // A valid profile's bytes to the front of `out`, which has room for them.
-#[tactic(auto, using(model::proofs::Validity::job_valid_at, crate::proofs::Records::nothing_filled, crate::proofs::Records::one_filled, crate::proofs::Records::all_filled), unfolding(model::specs::Model::entries))]
+#[tactic(auto, using(model::proofs::Validity::job_valid_at, crate::proofs::Records::nothing_filled, crate::proofs::Records::one_filled, crate::proofs::Records::all_filled))]
 fn fill(p: Profile, out: &mut [u8])
     requires { Valid p × (profile_length p.n ≤ length out.old) }
     ensures { out.new ≡ profile_bytes p ++ drop (profile_length p.n) out.old }
 {
     let n = p.n as usize;
     out[0] = (16 + n) as u8;
-    let mut k: usize = 0;
-    while k < n {
-        let j = p.jobs[k];
-        codec::put_word(out, 1 + 8 * k, pack_record(j));
-        k += 1;
+    for k in 0..n {
+        codec::put_word(out, 1 + 8 * k, pack_record(p.jobs[k]));
     }
 }
 

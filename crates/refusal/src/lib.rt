@@ -6,27 +6,27 @@
 ghost use Rattle.std.specs.Prelude.{◌≡◌};
 ghost use Rattle.model.specs.Model.{number_of, detail_of};
 
-use model::Verdict;
+use model::{Refusal, Verdict};
 
 // The refusal's number, 0 where there is none.
 pub fn number(v: Verdict) -> u32
     ensures { result ≡ number_of v }
 {
     match v {
-        Verdict::Sound => 0,
-        Verdict::NoBytes => 1,
-        Verdict::Edition => 2,
-        Verdict::JobCount => 3,
-        Verdict::Length => 4,
-        Verdict::Interval(_) => 5,
-        Verdict::Stiffness(_) => 6,
-        Verdict::Spare(_) => 7,
-        Verdict::Pages(_) => 8,
-        Verdict::NoPeriods => 9,
-        Verdict::Budget(_) => 10,
-        Verdict::Room(_) => 11,
-        Verdict::Row(_) => 12,
-        Verdict::Periods(_) => 13,
+        Ok(()) => 0,
+        Err(Refusal::NoBytes) => 1,
+        Err(Refusal::Edition) => 2,
+        Err(Refusal::JobCount) => 3,
+        Err(Refusal::Length) => 4,
+        Err(Refusal::Interval(_)) => 5,
+        Err(Refusal::Stiffness(_)) => 6,
+        Err(Refusal::Spare(_)) => 7,
+        Err(Refusal::Pages(_)) => 8,
+        Err(Refusal::NoPeriods) => 9,
+        Err(Refusal::Budget(_)) => 10,
+        Err(Refusal::Room(_)) => 11,
+        Err(Refusal::Row(_)) => 12,
+        Err(Refusal::Periods(_)) => 13,
     }
 }
 
@@ -35,19 +35,11 @@ pub fn detail(v: Verdict) -> u64
     ensures { result ≡ detail_of v }
 {
     match v {
-        Verdict::Sound => 0,
-        Verdict::NoBytes => 0,
-        Verdict::Edition => 0,
-        Verdict::JobCount => 0,
-        Verdict::Length => 0,
-        Verdict::Interval(k) => k as u64,
-        Verdict::Stiffness(k) => k as u64,
-        Verdict::Spare(k) => k as u64,
-        Verdict::Pages(k) => k as u64,
-        Verdict::NoPeriods => 0,
-        Verdict::Budget(b) => b.0 as u64,
-        Verdict::Room(k) => k,
-        Verdict::Row(k) => k,
-        Verdict::Periods(k) => k as u64,
+        Err(Refusal::Interval(k) | Refusal::Stiffness(k) | Refusal::Spare(k) | Refusal::Pages(k)) =>
+            { u64::from(k) }
+        Err(Refusal::Budget(b)) => u64::from(b.0),
+        Err(Refusal::Room(k) | Refusal::Row(k)) => k,
+        Err(Refusal::Periods(k)) => u64::from(k),
+        _ => 0,
     }
 }

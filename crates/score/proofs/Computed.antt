@@ -1,31 +1,30 @@
 -- What scoring answers can be computed, and what is computed meets the contract; so whatever is answered is that. Worked cases and the lines
 -- of the ladder program are told by it. Assumes nothing.
-use mathlib.Core.Path.{◌≡◌, sym, ◌∙◌, ap, subst}
+use mathlib.Core.Path.{◌≡◌, refl, sym, ◌∙◌, ap, subst}
 use mathlib.Core.List.{List}
 use mathlib.Core.Logic.{⊎_elim}
 use lib.ListN.{length}
-use borrow.Author.Tests.{ne_eqb}
+use Rattle.std.specs.Prelude.{Result, Ok, Err}
 use Rattle.model.specs.declared.Seconds.{Seconds}
 use Rattle.model.specs.declared.Job.{Job}
 use Rattle.model.specs.declared.Profile.{Profile}
-use Rattle.model.specs.declared.Verdict.{Verdict}
-use Rattle.model.specs.declared.Verdict.TheVariants.{Sound}
-use Rattle.model.specs.Model.{seconds, no_job, jobs_of, periods_of, Permitted, exact_need, zero_need, loss, number_of, refuse_if, or_else, if_sound, verdict_of}
+use Rattle.model.specs.declared.Refusal.{Refusal}
+use Rattle.model.specs.Model.{Verdict, sound, seconds, no_job, jobs_of, periods_of, Permitted, exact_need, loss, or_else, verdict_in, verdict_of}
 use Rattle.model.proofs.Entries.{length_entries}
-use Rattle.model.proofs.ProfileFirst.{sound_or_not, computed_first}
-use Rattle.model.proofs.Verdicts.{sound_of_zero, both_sound, beside_sound}
+use Rattle.model.proofs.ProfileFirst.{computed_first, answered}
+use Rattle.model.proofs.Verdicts.{refusal_is_none}
 use Rattle.score.specs.declared.Scored.{Scored}
-use Rattle.score.specs.Scoring.{no_score, Scoring, permitted, first_out, Scores}
+use Rattle.score.specs.Scoring.{Scoring, permitted, first_out, Scores}
 use Rattle.score.specs.Judging.{first_unpermitted, score_verdict}
-use Rattle.score.proofs.Permission.{sound_permitted, permitted_sound, permitted_or_first_out}
+use Rattle.score.proofs.Permission.{permitted_sound, permitted_or_first_out}
 use Rattle.score.proofs.OneOutcome.{scores_one}
 
--- need and loss beside a verdict
-unfoldable pub scored_by : List Job → List Seconds → Verdict → Scored
-scored_by js ts v = record { verdict = v; need = if_sound v (exact_need js ts) zero_need; loss = if_sound v (loss js ts) 0 }
+-- need and loss, past a verdict
+unfoldable pub scored_by : List Job → List Seconds → Verdict → Result Scored Refusal
+scored_by js ts v = or_else v (Ok (record { need = exact_need js ts; loss = loss js ts }))
 
-unfoldable pub score_for : Profile → List Seconds → Scored
-score_for p ts = if_sound (verdict_of p) (scored_by (jobs_of p) (periods_of p ts) (first_unpermitted 0 (seconds 1) (jobs_of p) (periods_of p ts))) (no_score (verdict_of p))
+unfoldable pub score_for : Profile → List Seconds → Result Scored Refusal
+score_for p ts = or_else (verdict_of p) (scored_by (jobs_of p) (periods_of p ts) (first_unpermitted 0 (seconds 1) (jobs_of p) (periods_of p ts)))
 
 -- as many periods as jobs
 as_many : (p : Profile) (ts : List Seconds) → length (jobs_of p) ≡ length (periods_of p ts)
@@ -33,7 +32,7 @@ as_many p ts = length_entries no_job p.jobs 0 p.n ∙ sym (length_entries (secon
 
 -- what the verdict on periods leaves
 judged_scores : (js : List Job) (ts : List Seconds) → length js ≡ length ts → Scoring js ts (scored_by js ts (first_unpermitted 0 (seconds 1) js ts))
-unfolding scored_by if_sound
+unfolding scored_by or_else
 judged_scores js ts many =
     ⊎_elim
     (λ (h : Permitted js ts). subst (λ (v : Verdict). Scoring js ts (scored_by js ts v)) (sym (permitted_sound 0 (seconds 1) js ts h)) (permitted h))
@@ -44,31 +43,32 @@ pub score_meets : (p : Profile) (ts : List Seconds) → Scores p ts (score_for p
 unfolding score_for
 score_meets p ts = computed_first _ (λ e. judged_scores (jobs_of p) (periods_of p ts) (as_many p ts))
 
+-- what is answered beside no refusal: the periods are permitted, and the loss is theirs
+scored_loss : {js : List Job} {ts : List Seconds} {s : Result Scored Refusal} {a : Scored} → Scoring js ts s → s ≡ Ok a → Permitted js ts × (a.loss ≡ loss js ts)
+scored_loss {js} {ts} {s} {a} (permitted h) e = (h, let told = e in cc)
+scored_loss (first_out f) e = absurd (refusal_is_none e)
+
 -- whatever is answered has the verdict that the tests give
 module _ (p : Profile) (ts : List Seconds) where
-  by_tests : (score_for p ts).verdict ≡ score_verdict p ts
-  unfolding score_for score_verdict scored_by or_else refuse_if if_sound
-  by_tests = go (sound_or_not (verdict_of p))
+  by_tests : verdict_in (score_for p ts) ≡ score_verdict p ts
+  unfolding score_for score_verdict scored_by or_else verdict_in
+  by_tests = go (verdict_of p) (first_unpermitted 0 (seconds 1) (jobs_of p) (periods_of p ts))
     where
-      go : Dec (verdict_of p ≡ Sound) → (score_for p ts).verdict ≡ score_verdict p ts
-      go (yes e) = rw e
-      go (no unsound) = rw (ne_eqb (number_of (verdict_of p)) 0 (λ z. unsound (sound_of_zero (verdict_of p) z)))
+      go : (v w : Verdict) → verdict_in (or_else v (scored_by (jobs_of p) (periods_of p ts) w)) ≡ or_else v w
+      go (Ok none) (Ok more) = refl
+      go (Ok none) (Err refusal) = refl
+      go (Err refusal) w = refl
 
-  module _ {s : Scored} (scores : Scores p ts s) where
-    pub verdict_is : s.verdict ≡ score_verdict p ts
-    verdict_is = ap (λ (r : Scored). r.verdict) (scores_one p ts scores (score_meets p ts)) ∙ by_tests
+  module _ {s : Result Scored Refusal} (scores : Scores p ts s) where
+    pub verdict_is : verdict_in s ≡ score_verdict p ts
+    verdict_is = ap verdict_in (scores_one p ts scores (score_meets p ts)) ∙ by_tests
 
-    pub sound_own : s.verdict ≡ Sound → verdict_of p ≡ Sound
-    unfolding score_verdict
-    sound_own e = (both_sound (verdict_of p) (sym verdict_is ∙ e)).0
+    module _ {a : Scored} (e : s ≡ Ok a) where
+      pub sound_own : verdict_of p ≡ sound
+      sound_own = (answered scores e).0
 
-    pub sound_allowed : s.verdict ≡ Sound → Permitted (jobs_of p) (periods_of p ts)
-    unfolding score_verdict
-    sound_allowed e = sound_permitted 0 (seconds 1) _ _ (as_many p ts) (both_sound (verdict_of p) (sym verdict_is ∙ e)).1
+      pub sound_allowed : Permitted (jobs_of p) (periods_of p ts)
+      sound_allowed = (scored_loss (answered scores e).1 e).0
 
-    pub sound_loss : s.verdict ≡ Sound → s.loss ≡ loss (jobs_of p) (periods_of p ts)
-    unfolding score_for scored_by score_verdict
-    sound_loss e =
-        let both = both_sound (verdict_of p) (sym verdict_is ∙ e) in
-        ap (λ (r : Scored). r.loss) (scores_one p ts scores (score_meets p ts) ∙ sym (beside_sound _ _ (sym both.0)))
-        ∙ sym (beside_sound _ _ (sym both.1))
+      pub sound_loss : a.loss ≡ loss (jobs_of p) (periods_of p ts)
+      sound_loss = (scored_loss (answered scores e).1 e).1

@@ -8,29 +8,29 @@ use Prim.Native.Nat.{ℕ, ◌+◌}
 use native.Mathlib.Nat.{suc-ne-zero, suc_inj, zero-add}
 use native.Mathlib.Omega.{arith}
 use lib.ListN.{length}
-use borrow.Author.Tests.{eqb-false, not-false}
+use borrow.Author.Tests.{not-false}
 use Rattle.model.specs.declared.Seconds.{Seconds}
 use Rattle.model.specs.declared.Job.{Job}
-use Rattle.model.specs.declared.Verdict.{Verdict}
-use Rattle.model.specs.declared.Verdict.TheVariants.{Sound, Periods}
-use Rattle.model.specs.Model.{seconds, Allowed, PermittedAfter, Permitted, refuse_if, or_else, number_of}
+use Rattle.std.specs.Prelude.{Err}
+use Rattle.model.specs.declared.Refusal.TheVariants.{Periods}
+use Rattle.model.specs.Model.{Verdict, sound, seconds, Allowed, PermittedAfter, Permitted, refuse_if, or_else}
 use Rattle.model.specs.Testing.{allows}
 use Rattle.model.proofs.Allowing.{allowed, allowed_back}
-use Rattle.model.proofs.Verdicts.{test_passed, both_sound, sound_passes}
+use Rattle.model.proofs.Verdicts.{test_passed, refusal_is_none, both_sound, sound_passes}
 use Rattle.score.specs.Scoring.{FirstOut, here, later}
 use Rattle.score.specs.Judging.{judge_period, first_unpermitted}
 
-period_allowed : (j : Job) (before t : Seconds) (k : ℕ) → judge_period j before t k ≡ Sound → Allowed j before t
+period_allowed : (j : Job) (before t : Seconds) (k : ℕ) → judge_period j before t k ≡ sound → Allowed j before t
 unfolding judge_period
-period_allowed j before t k e = allowed j before t (not-false _ (test_passed _ _ _ tt e).0)
+period_allowed j before t k e = allowed j before t (not-false _ (test_passed _ _ _ e).0)
 
-allowed_sound : (j : Job) (before t : Seconds) (k : ℕ) → Allowed j before t → judge_period j before t k ≡ Sound
+allowed_sound : (j : Job) (before t : Seconds) (k : ℕ) → Allowed j before t → judge_period j before t k ≡ sound
 unfolding judge_period refuse_if
 allowed_sound j before t k a = simp (allowed_back j before t a)
 
 -- no period is refused: all are permitted
 pub sound_permitted : (k : ℕ) (before : Seconds) (js : List Job) (ts : List Seconds) → length js ≡ length ts →
-    first_unpermitted k before js ts ≡ Sound → PermittedAfter before js ts
+    first_unpermitted k before js ts ≡ sound → PermittedAfter before js ts
 unfolding first_unpermitted
 sound_permitted k before [] [] h e = tt
 sound_permitted k before [] (t ∷ ts) h e = absurd (suc-ne-zero (length ts) (sym h))
@@ -40,7 +40,7 @@ sound_permitted k before (j ∷ js) (t ∷ ts) h e =
     (period_allowed j before t (k + 1) both.0, sound_permitted (k + 1) t js ts (suc_inj h) both.1)
 
 -- and the other way round
-pub permitted_sound : (k : ℕ) (before : Seconds) (js : List Job) (ts : List Seconds) → PermittedAfter before js ts → first_unpermitted k before js ts ≡ Sound
+pub permitted_sound : (k : ℕ) (before : Seconds) (js : List Job) (ts : List Seconds) → PermittedAfter before js ts → first_unpermitted k before js ts ≡ sound
 unfolding first_unpermitted
 permitted_sound k before [] [] h = refl
 permitted_sound k before [] (t ∷ ts) h = absurd h
@@ -48,32 +48,32 @@ permitted_sound k before (j ∷ js) [] h = absurd h
 permitted_sound k before (j ∷ js) (t ∷ ts) h =
     sound_passes {v = judge_period j before t (k + 1)} _ refl (allowed_sound j before t (k + 1) h.0) ∙ permitted_sound (k + 1) t js ts h.1
 
-period_cases : (j : Job) (before t : Seconds) (k : ℕ) → (judge_period j before t k ≡ Sound) ⊎ (judge_period j before t k ≡ Periods k)
+period_cases : (j : Job) (before t : Seconds) (k : ℕ) → (judge_period j before t k ≡ sound) ⊎ (judge_period j before t k ≡ Err (Periods k))
 unfolding judge_period refuse_if
 period_cases j before t k = go (not (allows j before t))
   where
-    go : (t : Bool) → (refuse_if t (Periods k) Sound ≡ Sound) ⊎ (refuse_if t (Periods k) Sound ≡ Periods k)
+    go : (t : Bool) → (refuse_if t (Periods k) sound ≡ sound) ⊎ (refuse_if t (Periods k) sound ≡ Err (Periods k))
     go true = inr refl
     go false = inl refl
 
-refused_not_allowed : (j : Job) (before t : Seconds) (k : ℕ) → judge_period j before t k ≡ Periods k → Allowed j before t → ⊥
-refused_not_allowed j before t k e a = eqb-false 0 13 refl (ap number_of (sym (allowed_sound j before t k a) ∙ e))
+refused_not_allowed : (j : Job) (before t : Seconds) (k : ℕ) → judge_period j before t k ≡ Err (Periods k) → Allowed j before t → ⊥
+refused_not_allowed j before t k e a = refusal_is_none (sym e ∙ allowed_sound j before t k a)
 
-refused_names : {v : Verdict} {k : ℕ} (rest : Verdict) → v ≡ Periods k → or_else v rest ≡ Periods k
-unfolding or_else refuse_if
+refused_names : {v : Verdict} {k : ℕ} (rest : Verdict) → v ≡ Err (Periods k) → or_else v rest ≡ Err (Periods k)
+unfolding or_else
 refused_names rest e = rw e
 
 -- 13 for the first period that is out, where the first of these jobs is numbered k + 1
 record NamesOut (k : ℕ) (before : Seconds) (js : List Job) (ts : List Seconds) (v : Verdict) : Type 0 where
   number : ℕ
   out : FirstOut before js ts number
-  named : v ≡ Periods (k + number)
+  named : v ≡ Err (Periods (k + number))
 
 later_out : {k : ℕ} {before : Seconds} {j : Job} {js : List Job} {t : Seconds} {ts : List Seconds} {v : Verdict} →
     Allowed j before t → NamesOut (k + 1) t js ts v → NamesOut k before (j ∷ js) (t ∷ ts) v
 later_out {k} a o =
     let same : k + 1 + o.number ≡ k + (o.number + 1) = omega arith in
-    record { number = o.number + 1; out = later a o.out; named = o.named ∙ ap Periods same }
+    record { number = o.number + 1; out = later a o.out; named = o.named ∙ ap (λ (m : ℕ). Err (Periods m)) same }
 
 -- the periods are permitted, or the verdict names the first that is out
 abbrev PermittedOrNamed : ℕ → Seconds → List Job → List Seconds → Verdict → Type 0
@@ -90,7 +90,7 @@ permitted_or_names k before (j ∷ js) (t ∷ ts) h = one_of (period_cases j bef
     one_of :
         let this = judge_period j before t (k + 1) in
         let rest = first_unpermitted (k + 1) t js ts in
-        (this ≡ Sound) ⊎ (this ≡ Periods (k + 1)) → PermittedOrNamed (k + 1) t js ts rest →
+        (this ≡ sound) ⊎ (this ≡ Err (Periods (k + 1))) → PermittedOrNamed (k + 1) t js ts rest →
         PermittedOrNamed k before (j ∷ js) (t ∷ ts) (or_else this rest)
     one_of (inl e) (inl rest) = inl (period_allowed j before t (k + 1) e, rest)
     one_of (inl e) (inr rest) =
@@ -100,11 +100,11 @@ permitted_or_names k before (j ∷ js) (t ∷ ts) h = one_of (period_cases j bef
 
 -- The periods are permitted, or 13 names the first that is not, those before it being allowed.
 pub permitted_or_first_out : (js : List Job) (ts : List Seconds) → length js ≡ length ts →
-    Permitted js ts ⊎ ((k : ℕ) × FirstOut (seconds 1) js ts k × (first_unpermitted 0 (seconds 1) js ts ≡ Periods k))
+    Permitted js ts ⊎ ((k : ℕ) × FirstOut (seconds 1) js ts k × (first_unpermitted 0 (seconds 1) js ts ≡ Err (Periods k)))
 permitted_or_first_out js ts h =
     ⊎_elim
     inl
-    (λ (o : NamesOut 0 (seconds 1) js ts (first_unpermitted 0 (seconds 1) js ts)). inr (o.number, o.out, o.named ∙ ap Periods (zero-add o.number)))
+    (λ (o : NamesOut 0 (seconds 1) js ts (first_unpermitted 0 (seconds 1) js ts)). inr (o.number, o.out, o.named ∙ ap (λ (m : ℕ). Err (Periods m)) (zero-add o.number)))
     (permitted_or_names 0 (seconds 1) js ts h)
 
 -- never both, and never two

@@ -7,9 +7,10 @@ use Prim.Native.Nat.{ℕ, ◌+◌, ◌≤◌, ◌<◌}
 use native.Mathlib.Nat.{sub-zero, zero-add}
 use native.Mathlib.Omega.{arith}
 use lib.ListN.{get_or}
+use Rattle.std.specs.Prelude.{Ok, Err}
 use Rattle.model.specs.declared.Seconds.{Seconds}
 use Rattle.model.specs.declared.Profile.{Profile}
-use Rattle.model.specs.declared.Verdict.TheVariants.{Sound, Periods}
+use Rattle.model.specs.declared.Refusal.TheVariants.{Periods}
 use Rattle.model.specs.Model.{seconds, no_job, jobs_of, periods_of, Allowed, per_hour, job_loss}
 use Rattle.model.specs.Testing.{allows}
 use Rattle.model.specs.Valid.{Valid}
@@ -17,7 +18,7 @@ use Rattle.model.proofs.Allowing.{allowed_back}
 use Rattle.model.proofs.Entries.{entries_step}
 use Rattle.step.specs.Step.{load_at, carried}
 use Rattle.step.proofs.Along.{jobs_from, periods_from, Along, along_starts, along_next, along_permitted, along_exact, along_lost}
-use Rattle.score.specs.Scoring.{no_score, FirstOut, here, later, Scoring, permitted, first_out}
+use Rattle.score.specs.Scoring.{FirstOut, here, later, Scoring, permitted, first_out}
 
 -- before a turn: what the jobs before the k-th have written and lost is carried along, and the first period that is out, if any,
 -- stands among those still to come
@@ -36,7 +37,7 @@ module _ {p : Profile} {ts : List Seconds} {before : Seconds} {written lost k : 
         FirstOut (seconds 1) (jobs_of p) (periods_of p ts) (k + m)
     from_here f = l.out (rw (entries_step no_job p.jobs k p.n less, entries_step (seconds 0) ts k p.n less) f)
 
-    pub period_out : allows (get_or p.jobs k no_job) before (get_or ts k (seconds 0)) ≡ false → Scoring (jobs_of p) (periods_of p ts) (no_score (Periods (k + 1)))
+    pub period_out : allows (get_or p.jobs k no_job) before (get_or ts k (seconds 0)) ≡ false → Scoring (jobs_of p) (periods_of p ts) (Err (Periods (k + 1)))
     period_out e = first_out (from_here (here (λ a. true≢false (sym (allowed_back _ before _ a) ∙ e))))
 
     pub next_job : Valid p →
@@ -52,5 +53,5 @@ module _ {p : Profile} {ts : List Seconds} {before : Seconds} {written lost k : 
 
   -- past the last job
   pub all_reckoned : Valid p → p.n ≤ k →
-      Scoring (jobs_of p) (periods_of p ts) (record { verdict = Sound; need = per_hour written before; loss = lost })
+      Scoring (jobs_of p) (periods_of p ts) (Ok (record { need = per_hour written before; loss = lost }))
   all_reckoned v past = rw (along_exact l.along past v, along_lost l.along past) (permitted (along_permitted l.along past))

@@ -5,7 +5,7 @@
 // its loss. These functions serve other crates of the planner, and their callers meet what they require. Nothing is assumed.
 #![tactic(auto)]
 
-ghost use Rattle.std.specs.Prelude.{◌≡◌, ◌≤◌, max};
+ghost use Rattle.std.specs.Prelude.{◌≡◌, ◌≤◌};
 ghost use Rattle.model.specs.Model.{cost, per_hour, rounded_up, rate, job_loss};
 ghost use Rattle.model.specs.Most.{most_pages, most_need};
 ghost use Rattle.model.specs.Valid.{Valid, ValidJob};
@@ -13,21 +13,20 @@ ghost use Rattle.step.specs.Step.{load, LoadsTo, carried, NeedFits, hourly, loss
 
 use model::{ExactNeed, Job, PagesPerHour, Profile, Remainder, Seconds};
 
-// The pages of a run of each job, as need counts them: from the first job on, since a job's count depends on those before it.
+// The pages of a run of each job, as need counts them: from the first job on, since a job's count depends on those before it. That
+// the profile is valid stays a clause: callers of a function that docs/CONTRACTS.md names are asked for no other type, and the
+// others hand their profile on to it.
 #[tactic(auto, using(model::proofs::Validity::job_valid_at), unfolding(crate::specs::Step::greatest_before))]
 pub fn loads_of(p: Profile) -> [u32; 8]
     requires { Valid p }
     ensures { LoadsTo p p.n result }
 {
-    let n = p.n as usize;
-    let mut loads = [0u32; 8];
-    let mut greatest: u32 = 0;
-    let mut k: usize = 0;
-    while k < n {
+    let mut loads = [0; 8];
+    let mut greatest = 0;
+    for k in 0..p.n as usize {
         let j = p.jobs[k];
         loads[k] = need_pages(j, greatest);
-        greatest = greater(greatest, j.metadata);
-        k += 1;
+        greatest = greatest.max(j.metadata);
     }
     loads
 }
@@ -39,20 +38,12 @@ fn need_pages(j: Job, greatest: u32) -> u32
     requires { ValidJob j }
     ensures { result ≡ load greatest j }
 {
-    j.data + (greater(greatest, j.metadata) - greatest)
+    let excess = j.metadata.saturating_sub(greatest);
+    j.data + excess
 }
 
-// The greater of two numbers of metadata pages: what one commit of both takes.
-fn greater(a: u32, b: u32) -> u32
-    ensures { result ≡ max a b }
-{
-    if a < b {
-        return b;
-    }
-    a
-}
-
-// The pages of a run, as loss counts them.
+// The pages of a run, as loss counts them. Jobs come out of profiles that callers give as plain values, so that one is valid is said
+// here and no type of its own.
 #[tactic(auto, unfolding(model::specs::Model::cost))]
 pub fn loss_pages(j: Job) -> u32
     requires { ValidJob j }
@@ -62,12 +53,12 @@ pub fn loss_pages(j: Job) -> u32
 }
 
 // The pages that jobs write in t seconds, where those before this one have `written` so many in `before`, and a run of this one
-// adds its `own`.
+// adds its `own`. That pages fit is said of two numbers that several structs hold, so it stays a clause.
 pub fn carry(written: u64, before: Seconds, t: Seconds, own: u32) -> u64
     requires { NeedFits written before × (t.0 ≤ 3600) × (own ≤ most_pages) }
     ensures { result ≡ carried written before t own }
 {
-    written * ((t.0 / before.0) as u64) + (own as u64)
+    written * u64::from(t.0 / before.0) + u64::from(own)
 }
 
 // The need of a plan that writes so many pages in t seconds, without rounding.
@@ -75,7 +66,7 @@ pub fn exact_need(written: u64, t: Seconds) -> ExactNeed
     requires { NeedFits written t }
     ensures { result ≡ per_hour written t }
 {
-    let cycle = t.0 as u64;
+    let cycle = u64::from(t);
     let hourly = 3600 * written;
     ExactNeed {
         whole: PagesPerHour((hourly / cycle) as u32),
@@ -90,8 +81,8 @@ pub fn rounded_up(need: ExactNeed) -> PagesPerHour
     requires { need.whole.0 ≤ most_need }
     ensures { result ≡ rounded_up need }
 {
-    if need.remainder.0 == 0 {
-        return PagesPerHour(need.whole.0);
+    if need.remainder == Remainder(0) {
+        return need.whole;
     }
     PagesPerHour(need.whole.0 + 1)
 }
@@ -128,6 +119,6 @@ pub fn job_loss(stiffness: u32, fastest: PagesPerHour, pages: u32, t: Seconds) -
     requires { LossFits stiffness fastest pages t }
     ensures { result ≡ loss_at stiffness fastest pages t }
 {
-    let slower = (fastest.0 - hourly_rate(pages, t).0) as u64;
-    (stiffness as u64) * (slower * slower)
+    let slower = u64::from(fastest.0 - hourly_rate(pages, t).0);
+    u64::from(stiffness) * (slower * slower)
 }

@@ -11,10 +11,9 @@ use Rattle.model.specs.declared.Job.{Job}
 use Rattle.model.specs.declared.Profile.{Profile}
 use Rattle.model.specs.Model.{jobs_of}
 use Rattle.model.specs.Valid.{ValidJobs, Valid}
-use Rattle.table_stairs.specs.Stairs.{Stair, stair}
-use Rattle.table_stairs.specs.Rows.{need_in, stair_at, stairs_in}
-use Rattle.table_climb.specs.Next.{Answer, NextAnswers, last_need, AnswersUnder, AnswersIn}
-use Rattle.table_stairs.proofs.Rows.{rows_length}
+use Rattle.table_stairs.specs.Stairs.{Stair}
+use Rattle.table_stairs.specs.Ordered.{row_at}
+use Rattle.table_climb.specs.Next.{Answer, NextAnswers, last_need, AnswersUnder}
 use Rattle.table_climb.proofs.Answers.{need_last}
 use Rattle.table.specs.Descent.{rows_below}
 use Rattle.table.proofs.Descent.{rows_step, rows_none}
@@ -44,22 +43,12 @@ module _ (js : List Job) (v : ValidJobs js) where
   rows_no_answer b rows a e = rows_none js v b (a.none e)
 
 -- a batch, as the functions of this crate get it
-module _ {p : Profile} (v : Valid p) {budget : PagesPerHour} {found : ℕ} {flat : List ℕ} (b : AnswersIn p budget found flat) where
-  abbrev batch : List Stair
-  batch = stairs_in p.n found flat
+module _ {p : Profile} (v : Valid p) {budget : PagesPerHour} {rows : List Stair} (b : AnswersUnder (jobs_of p) budget rows) where
+  pub batch_need : 0 < length rows → (row_at rows (length rows - 1)).its_need ≡ last_need (suc budget.0) rows
+  batch_need some = sym (need_last (suc budget.0) rows (length rows - 1) (omega arith))
 
-  pub batch_length : length (stairs_in p.n found flat) ≡ found
-  batch_length = rows_length p.n flat 0 found
+  pub batch_count : length (rows_below (jobs_of p) (suc budget.0)) ≡ length (rows_below (jobs_of p) (last_need (suc budget.0) rows)) + length rows
+  batch_count = count_next (jobs_of p) v.jobs (suc budget.0) rows b.next
 
-  pub batch_need : 0 < found → need_in flat (found - 1) ≡ last_need (suc budget.0) (stairs_in p.n found flat)
-  unfolding stair_at
-  batch_need some =
-      let d = stair 0 0 [] in
-      let last : length batch ≡ suc (found - 1) = omega (arith, batch_length) in
-      sym (ap (λ (r : Stair). r.its_need) (b.rows d (found - 1) (omega arith))) ∙ sym (need_last d _ batch (found - 1) last)
-
-  pub batch_count : length (rows_below (jobs_of p) (suc budget.0)) ≡ length (rows_below (jobs_of p) (last_need (suc budget.0) (stairs_in p.n found flat))) + found
-  batch_count = omega (arith, count_next (jobs_of p) v.jobs _ batch b.under.next, batch_length)
-
-  pub batch_none : found ≡ 0 → rows_below (jobs_of p) (suc budget.0) ≡ []
-  batch_none e = rows_no_answer (jobs_of p) v.jobs budget batch b.under (batch_length ∙ e)
+  pub batch_none : length rows ≡ 0 → rows_below (jobs_of p) (suc budget.0) ≡ []
+  batch_none e = rows_no_answer (jobs_of p) v.jobs budget rows b e

@@ -9,14 +9,14 @@ use native.Mathlib.Omega.{arith}
 use native.Mathlib.Decide.{dec_le, dec_lt}
 use native.Mathlib.Nat.{le_refl}
 use lib.ListN.{length}
+use Rattle.std.specs.Prelude.{Result, Ok}
 use borrow.Author.Tests.{lt-ltb, le-ltb, le-leb, lt-leb}
 use Rattle.model.specs.declared.Seconds.{Seconds}
 use Rattle.model.specs.declared.PagesPerHour.{PagesPerHour}
 use Rattle.model.specs.declared.Job.{Job}
 use Rattle.model.specs.declared.Profile.{Profile}
-use Rattle.model.specs.declared.Counted.{Counted}
-use Rattle.model.specs.declared.Verdict.TheVariants.{Sound}
-use Rattle.model.specs.Model.{no_job, jobs_of, Permitted, need, FitsBudget, Best, verdict_of}
+use Rattle.model.specs.declared.Refusal.{Refusal}
+use Rattle.model.specs.Model.{sound, no_job, jobs_of, Permitted, need, FitsBudget, Best, verdict_of}
 use Rattle.model.specs.Valid.{ValidJobs}
 use Rattle.model.proofs.Entries.{length_entries}
 use Rattle.model.proofs.Validity.{sound_valid}
@@ -78,7 +78,7 @@ module _ (js : List Job) (v : ValidJobs js) (ts : List Seconds) (rows : List (Li
       let m = t.every_budget b best.0 h best.1 in
       let greatest : Greatest js b (ts ∷ rows) best.0 = λ xs n le. needs_follow (best_at_need (t.some_budget xs n).2) best.1 le in
       let last = last_row_lem js b ts rows best.0 t.rising m best.1.fits greatest in
-      rw (le-ltb b.0 (need js ts).0 fits) (subst (λ (l : List Seconds). Outcome js b (answered js l)) (sym last) (given best.1))
+      rw (le-ltb b.0 (need js ts).0 fits) (subst (λ (l : List Seconds). Outcome js b (Ok (answered js l))) (sym last) (given best.1))
 
 -- For every budget, the answer read from the table is the answer of choosing, the detail of 10 included.
 pub table_answers : (js : List Job) → ValidJobs js → length js ≤ 8 → (rows : List (List Seconds)) → TableOf js rows
@@ -88,9 +88,9 @@ table_answers js v few [] t b h = none_permitted ((no_rows js v few t).0 refl)
 table_answers js v few (ts ∷ rows) t b h = answers js v ts rows t b h (dec_lt b.0 (need js ts).0)
 
 -- So the rows that building went by answer every budget as `choose` does.
-pub built_answers : (p : Profile) (old : List ℕ) {r : Counted} {new : List ℕ} (t : Built p old r new) → verdict_of p ≡ Sound
-    → (b : PagesPerHour) → b.0 < 2 ^ 32 → {c : Choice} → Chosen p b c → c ≡ read_table (jobs_of p) t.rows b
+pub built_answers : (p : Profile) (old : List ℕ) {r : Result ℕ Refusal} {new : List ℕ} (t : Built p old r new) → verdict_of p ≡ sound
+    → (b : PagesPerHour) → b.0 < 2 ^ 32 → {c : Result Choice Refusal} → Chosen p b c → c ≡ read_table (jobs_of p) t.rows b
 built_answers p old t e b h chosen =
     let v = sound_valid p e in
     let few : length (jobs_of p) ≤ 8 = omega (arith, length_entries no_job p.jobs 0 p.n) in
-    one_outcome (chosen.sound e) (table_answers (jobs_of p) v.jobs few t.rows (t.are e) b h)
+    one_outcome (chosen.rest e) (table_answers (jobs_of p) v.jobs few t.rows (t.are e) b h)

@@ -6,26 +6,22 @@ use Prim.Native.Nat.{ℕ, zero, suc, ◌+◌, ◌*◌, ◌-◌, ◌/◌, ◌^◌
 use native.Mathlib.Omega.{arith}
 use native.Mathlib.Nat.{le_refl, sub-zero}
 use lib.ListN.{length, get_or, take, drop, replicate, length-append, length-drop, take-append-drop}
-use lib.Seq.{take-take, take-append-le, take-length, drop_at, length-take-le}
+use lib.Seq.{take-take, take-append-le, drop_at, length-take-le}
 use Rattle.model.specs.declared.Seconds.{Seconds}
 use Rattle.model.specs.declared.PagesPerHour.{PagesPerHour}
 use Rattle.model.specs.declared.Job.{Job}
-use Rattle.model.specs.declared.Profile.{Profile}
-use Rattle.model.specs.Model.{seconds, pages_per_hour, jobs_of, need, row_size}
-use Rattle.model.specs.Valid.{ValidJobs, Valid}
+use Rattle.model.specs.Model.{seconds, pages_per_hour, need, row_size}
+use Rattle.model.specs.Valid.{ValidJobs}
 use Rattle.codec.specs.RowWords.{with_row}
 use Rattle.codec.proofs.Rows.{row_in}
-use Rattle.walk.specs.Steps.{periods_in}
 use Rattle.table_row.specs.Table.{table_row}
-use Rattle.table_row.proofs.Words.{length_table_row, row_of_front}
-use Rattle.table_stairs.specs.Stairs.{Stair, stair}
-use Rattle.table_stairs.specs.Rows.{need_in, stair_periods, stair_at, stairs_in, Legible}
-use Rattle.table_climb.specs.Next.{Answer, last_need, AnswersIn}
-use Rattle.table_climb.proofs.Answers.{answer_at, need_at_lem}
+use Rattle.table_row.proofs.Words.{length_table_row}
+use Rattle.table_stairs.specs.Stairs.{Stair}
+use Rattle.table_climb.specs.Next.{Answer, NextAnswers, last_need}
 use Rattle.table_batch.specs.Batch.{batch_row, with_batch}
 use Rattle.table.specs.Table.{table_bytes}
 use Rattle.table.specs.Descent.{rows_below, all_budgets}
-use Rattle.table.proofs.Next.{rows_answer, batch_length, batch_need}
+use Rattle.table.proofs.Next.{rows_answer}
 
 -- zeros behind a list are what stands beyond it
 get_d_zeros : (k i : ℕ) → get_or (replicate k (seconds 0)) i (seconds 0) ≡ seconds 0
@@ -39,12 +35,8 @@ get_d_padded (t ∷ ts) k zero = refl
 get_d_padded (t ∷ ts) k (suc i) = get_d_padded ts k i
 
 -- the row of an answer has its need and its periods
-answer_row : {js : List Job} {limit : ℕ} (n : ℕ) (flat : List ℕ) (k : ℕ) → Answer js limit (stair_at n flat k) → Legible n flat k
-    → batch_row flat k ≡ table_row (need js (stair_at n flat k).periods) (stair_at n flat k).periods
-unfolding stair_at
-answer_row n flat k a legible =
-    sym (row_of_front (pages_per_hour (need_in flat k)) n (stair_periods flat k) legible)
-    ∙ ap (λ (q : ℕ). table_row (pages_per_hour q) (periods_in n (stair_periods flat k))) a.need_is
+answer_row : {js : List Job} {limit : ℕ} {r : Stair} → Answer js limit r → batch_row r ≡ table_row (need js r.periods) r.periods
+answer_row {r = r} a = ap (λ (q : ℕ). table_row (pages_per_hour q) r.periods) a.need_is
 
 -- a row more changes no length
 row_length : (out : List ℕ) (k : ℕ) (start : PagesPerHour) (ts : List Seconds) → k < length out / row_size → length (with_row out k (table_row start ts)) ≡ length out
@@ -118,44 +110,13 @@ module _ (js : List Job) (count : ℕ) (old : List ℕ) where
       → Writing js count old out' row' limit'
   written_alike a b c i = rw (a, b, c) i
 
-module _ {p : Profile} {count : ℕ} {old : List ℕ} (v : Valid p) (room : count ≤ length old / row_size) {out : List ℕ} {budget : PagesPerHour} {row found : ℕ} {flat : List ℕ}
-    (i : Writing (jobs_of p) count old out row (suc budget.0)) (b : AnswersIn p budget found flat) where
-  abbrev batch : List Stair
-  batch = stairs_in p.n found flat
-
-  -- what is left to come behind the first k rows of the batch
-  abbrev limit_at : ℕ → ℕ
-  limit_at k = last_need (suc budget.0) (take k batch)
-
-  -- these rows stand
-  abbrev Stand : ℕ → Type 0
-  Stand k = Writing (jobs_of p) count old (with_batch flat row k out) (row - k) (limit_at k)
-
-  next_written : (k : ℕ) → k < found → Stand k → Stand (suc k)
-  unfolding with_batch
-  next_written k less w =
-      let d = stair 0 0 [] in
-      let r = stair_at p.n flat k in
-      let is = b.rows d k less in
-      let inside : k < length batch = omega (arith, batch_length v b) in
-      let answer = subst (Answer (jobs_of p) (limit_at k)) is (answer_at d _ batch k b.under.next inside) in
-      let its-row = answer_row p.n flat k answer (b.legible k less) in
-      let place : row - 1 - k ≡ row - k - 1 = omega arith in
-      let left : row - suc k ≡ row - k - 1 = omega arith in
-      let limit : limit_at (suc k) ≡ r.its_need = need_at_lem d _ batch k inside ∙ ap (λ (x : Stair). x.its_need) is in
-      written_alike (jobs_of p) count old (ap₂ (with_row (with_batch flat row k out)) place its-row) left limit
-      (one_written (jobs_of p) count old (with_batch flat row k out) (row - k) (limit_at k) w v.jobs answer room)
-
-  none_yet : Stand 0
+-- the rows of a batch, one after the other
+module _ {js : List Job} {count : ℕ} {old : List ℕ} (v : ValidJobs js) (room : count ≤ length old / row_size) where
+  pub batch_written : (rows : List Stair) {out : List ℕ} {row limit : ℕ} → NextAnswers js limit rows → Writing js count old out row limit →
+      Writing js count old (with_batch rows row out) (row - length rows) (last_need limit rows)
   unfolding with_batch last_need
-  none_yet = rw sub-zero i
-
-  rows_written : (k : ℕ) → k ≤ found → Stand k
-  rows_written zero le = none_yet
-  rows_written (suc k) le = next_written k le (rows_written k (omega arith))
-
-  pub batch_written : 0 < found → {new : List ℕ} {next : ℕ} → new ≡ with_batch flat row found out → next ≡ need_in flat (found - 1) → Writing (jobs_of p) count old new (row - found) next
-  batch_written some e is =
-      let all : batch ≡ take found batch = sym (take-length batch) ∙ ap (λ (k : ℕ). take k batch) (batch_length v b) in
-      let limit = is ∙ batch_need v b some ∙ ap (last_need (suc budget.0)) all in
-      written_alike (jobs_of p) count old e refl limit (rows_written found (le_refl found))
+  batch_written [] h i = rw sub-zero i
+  batch_written (r ∷ rows) {out} {row} {limit} h i =
+      let left : row - 1 - length rows ≡ row - suc (length rows) = omega arith in
+      let one = one_written js count old out row limit i v h.0 room in
+      rw (← left, answer_row h.0) (batch_written rows h.1 one)

@@ -1,7 +1,7 @@
 -- One batch after the other, each below the last need of the one before: before each turn the rows seen and the rows up to the budget are
 -- all rows, and where all have their places those seen stand there.
 -- Assumes nothing.
-use mathlib.Core.Path.{◌≡◌, refl, ◌∙◌, ap, subst}
+use mathlib.Core.Path.{◌≡◌, refl, ◌∙◌, ap}
 use mathlib.Core.List.{List}
 use Prim.Native.Nat.{ℕ, suc, ◌+◌, ◌-◌, ◌/◌, ◌^◌, ◌≤◌, ◌<◌}
 use native.Mathlib.Omega.{arith}
@@ -12,8 +12,9 @@ use Rattle.model.specs.declared.Job.{Job}
 use Rattle.model.specs.declared.Profile.{Profile}
 use Rattle.model.specs.Model.{jobs_of, row_size}
 use Rattle.model.specs.Valid.{Valid}
-use Rattle.table_stairs.specs.Rows.{need_in}
-use Rattle.table_climb.specs.Next.{AnswersIn}
+use Rattle.table_stairs.specs.Stairs.{Stair}
+use Rattle.table_stairs.specs.Ordered.{row_at}
+use Rattle.table_climb.specs.Next.{last_need, AnswersUnder}
 use Rattle.table_batch.specs.Batch.{with_batch}
 use Rattle.table.specs.Descent.{rows_below, all_budgets, Wrote}
 use Rattle.table.proofs.Descent.{rows_few, rows_zero}
@@ -43,21 +44,22 @@ module _ {js : List Job} {end : ℕ} {old out : List ℕ} {seen limit : ℕ} (i 
 pub budgets_seen : {js : List Job} {end : ℕ} {old out : List ℕ} {seen : ℕ} → Seen js end old out seen 0 → Wrote js end old out seen
 budgets_seen {js} i = all_seen i (ap length (rows_zero js))
 
-module _ {p : Profile} {end : ℕ} {old out : List ℕ} {budget : PagesPerHour} {seen found : ℕ} {flat : List ℕ} (v : Valid p)
-    (i : Seen (jobs_of p) end old out seen (suc budget.0)) (b : AnswersIn p budget found flat) where
-  pub none_found : found ≡ 0 → Wrote (jobs_of p) end old out seen
+module _ {p : Profile} {end : ℕ} {old out : List ℕ} {budget : PagesPerHour} {seen : ℕ} {rows : List Stair} (v : Valid p)
+    (i : Seen (jobs_of p) end old out seen (suc budget.0)) (b : AnswersUnder (jobs_of p) budget rows) where
+  pub none_found : length rows ≡ 0 → Wrote (jobs_of p) end old out seen
   none_found none = all_seen i (ap length (batch_none v b none))
 
-  pub found_before : length (rows_below (jobs_of p) all_budgets) ≤ end → found ≤ end - seen
+  pub found_before : length (rows_below (jobs_of p) all_budgets) ≤ end → length rows ≤ end - seen
   found_before most = omega (arith, i.total, batch_count v b)
 
   -- one batch more
-  pub batch_seen : 0 < found → {new : List ℕ} {next : ℕ} → length new ≡ length out → new ≡ with_batch flat (end - seen) found out → next ≡ need_in flat (found - 1)
-      → Seen (jobs_of p) end old new (seen + found) next
+  pub batch_seen : 0 < length rows → {new : List ℕ} {next : ℕ} → length new ≡ length out → new ≡ with_batch rows (end - seen) out → next ≡ (row_at rows (length rows - 1)).its_need
+      → Seen (jobs_of p) end old new (seen + length rows) next
   batch_seen some {new} {next} size e is =
-      let place : end - seen - found ≡ end - (seen + found) = omega arith in
+      let place : end - seen - length rows ≡ end - (seen + length rows) = omega arith in
+      let left : next ≡ last_need (suc budget.0) rows = is ∙ batch_need v b some in
       record {
-        total = rw (is, batch_need v b some) (omega (arith, i.total, batch_count v b));
+        total = rw left (omega (arith, i.total, batch_count v b));
         same = size ∙ i.same;
-        written = λ all room. subst (λ (row : ℕ). Writing (jobs_of p) end old new row next) place (batch_written v room (i.written all room) b some e is);
+        written = λ all room. rw (e, ← place, left) (batch_written v.jobs room rows b.next (i.written all room));
       }

@@ -13,7 +13,8 @@ ghost use Rattle.model.specs.Valid.{Valid};
 ghost use Rattle.table.specs.Table.{Built};
 ghost use Rattle.table.specs.Descent.{rows_below, all_budgets, Wrote};
 
-use model::{Counted, PagesPerHour, Profile, Verdict};
+use model::{PagesPerHour, Profile, Refusal};
+use table_enter::Stairs;
 
 const GREATEST_BUDGET: PagesPerHour = PagesPerHour(0xffff_ffff);
 
@@ -21,30 +22,28 @@ const GREATEST_BUDGET: PagesPerHour = PagesPerHour(0xffff_ffff);
 const MOST_ROWS: usize = 0x1_0000_0000;
 
 // Writes the budget table to the front of `out`, or refuses: the profile's own refusal, 9, then 11 with the rows needed.
-pub fn build_table(p: Profile, out: &mut [u8]) -> Counted
+#[tactic(auto, using(model::proofs::Validity::judged_valid, crate::proofs::Outcome::refused_built))]
+pub fn build_table(p: Profile, out: &mut [u8]) -> Result<u64, Refusal>
     ensures { Built p out.old result out.new }
 {
-    let v = profile_judge::judge(p);
-    let Verdict::Sound = v else {
-        return Counted {
-            verdict: v,
-            count: 0,
-        };
+    let Err(refusal) = profile_judge::judge(p) else {
+        return build_sound(p, out);
     };
+    Err(refusal)
+}
+
+// The same for a sound profile. Listing zones has this shape over another walk; a walk handed in as a closure would take as many
+// lines here and a promise of the closure besides.
+#[tactic(auto, using(crate::proofs::Descent::rows_few, crate::proofs::Outcome::count_built, crate::proofs::Outcome::all_built))]
+fn build_sound(p: Profile, out: &mut [u8]) -> Result<u64, Refusal>
+    requires { Valid p }
+    ensures { Built p out.old result out.new }
+{
     let mut nowhere = [0u8; 1];
     let count = write_rows(p, MOST_ROWS, &mut nowhere) as u64;
-    let w = model::judge_count(count, out.len());
-    let Verdict::Sound = w else {
-        return Counted {
-            verdict: w,
-            count: 0,
-        };
-    };
+    model::judge_count(count, out.len())?;
     write_rows(p, count as usize, out);
-    Counted {
-        verdict: Verdict::Sound,
-        count,
-    }
+    Ok(count)
 }
 
 // Goes through the rows from the greatest budget down and writes them to the places before `end`, where `out` has these;
@@ -54,17 +53,19 @@ fn write_rows(p: Profile, end: usize, out: &mut [u8]) -> usize
     requires all_budgets_len_bound { length (rows_below (jobs_of p) all_budgets) ≤ end }
     ensures { Wrote (jobs_of p) end out.old out.new result }
 {
-    let mut rows = [0u64; 768];
+    let mut stairs = Stairs::new();
     let mut seen: usize = 0;
     let mut budget = GREATEST_BUDGET;
+    // By hand: how many rows a turn sees, only the walk tells.
     while seen < end {
-        let found = table_climb::answers_under(p, budget, &mut rows);
-        if found == 0 {
+        table_climb::answers_under(p, budget, &mut stairs);
+        let rows = stairs.rows();
+        if rows.is_empty() {
             return seen;
         }
-        table_batch::write_batch(&rows, found, end - seen, out);
-        seen += found;
-        let need = table_batch::last_need(&rows, found);
+        table_batch::write_batch(rows, end - seen, out);
+        seen += rows.len();
+        let need = table_batch::last_need(rows);
         if need.0 == 0 {
             return seen;
         }

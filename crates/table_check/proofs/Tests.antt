@@ -8,18 +8,20 @@ use Prim.Native.Nat.{ℕ, zero, suc, ◌+◌, ◌-◌, ◌≤◌, ◌<◌}
 use native.Mathlib.Nat.{eq-or-lt_of_le, not-suc-le-zero}
 use native.Mathlib.Omega.{arith}
 use lib.ListN.{get_or}
-use lib.Dec.{eqb, ltb}
-use borrow.Author.Tests.{ltb-true, eqb-true, lt-ltb, eq-eqb}
+use lib.Dec.{eqb}
+use borrow.Author.Tests.{eqb-true, eq-eqb}
 use Rattle.model.specs.declared.Seconds.{Seconds}
 use Rattle.model.specs.declared.Job.{Job}
 use Rattle.model.specs.declared.Profile.{Profile}
 use Rattle.model.specs.Model.{seconds, jobs_of, periods_of, PermittedAfter, need}
 use Rattle.model.specs.Testing.{allows}
 use Rattle.model.proofs.Allowing.{both_true, both_hold, allowed, allowed_back}
-use Rattle.table_row.specs.Table.{rows_in, start_at, periods_at, loss_at}
+use Rattle.table_row.specs.Table.{rows_in, start_at, periods_at}
 use Rattle.table_check.specs.Formed.{GoodRow}
 use Rattle.table_check.specs.Checks.{Checked, all_good, first_bad}
-use Rattle.table_check.proofs.Turns.{below_next}
+use Rattle.table_row.specs.Cut.{follows}
+use Rattle.table_check.proofs.Turns.{below_next, standing_at, standing_before, good_follows, follows_good}
+use Rattle.std.proofs.Common.{Option, Some, None}
 
 -- permitted periods
 unfoldable pub permits : Seconds → List Job → List Seconds → Bool
@@ -64,36 +66,17 @@ unfolding zeros_from
 zeros_all ts zero i h = refl
 zeros_all ts (suc m) i h = both_hold (eq-eqb _ 0 (h i (omega arith) (omega arith))) (zeros_all ts m (i + 1) (λ j from to. h j (omega arith) (omega arith)))
 
--- starts above the row in front of it, and loses less
-unfoldable pub after_good : Profile → List ℕ → ℕ → Bool
-after_good p bytes zero = true
-after_good p bytes (suc j) = ltb (start_at bytes j).0 (start_at bytes (suc j)).0 && ltb (loss_at p bytes (suc j)) (loss_at p bytes j)
-
 unfoldable pub row_good : Profile → List ℕ → ℕ → Bool
 row_good p bytes k =
     permits (seconds 1) (jobs_of p) (periods_of p (periods_at bytes k))
-    && (zeros_from (periods_at bytes k) p.n (8 - p.n) && (eqb (need (jobs_of p) (periods_of p (periods_at bytes k))).0 (start_at bytes k).0 && after_good p bytes k))
+    && (zeros_from (periods_at bytes k) p.n (8 - p.n) && (eqb (need (jobs_of p) (periods_of p (periods_at bytes k))).0 (start_at bytes k).0 && follows (standing_before p bytes k) (standing_at p bytes k)))
 
--- the first of m rows from row k on that is not good, counted from 1; 0 where there is none
-unfoldable pub first_bad_from : Profile → List ℕ → ℕ → ℕ → ℕ
-first_bad_from p bytes k zero = 0
-first_bad_from p bytes k (suc m) = cond (row_good p bytes k) (first_bad_from p bytes (k + 1) m) (k + 1)
+-- the first of m rows from row k on that is not good, counted from 1
+unfoldable pub first_bad_from : Profile → List ℕ → ℕ → ℕ → Option ℕ
+first_bad_from p bytes k zero = None
+first_bad_from p bytes k (suc m) = cond (row_good p bytes k) (first_bad_from p bytes (k + 1) m) (Some (k + 1))
 
 module _ (p : Profile) (bytes : List ℕ) (few : p.n ≤ 8) where
-  after_only : (k : ℕ) → after_good p bytes k ≡ true → (j : ℕ) → k ≡ j + 1 → ((start_at bytes j).0 < (start_at bytes k).0) × (loss_at p bytes k < loss_at p bytes j)
-  unfolding after_good
-  after_only zero e j f = absurd (omega arith)
-  after_only (suc k) e j f =
-      let both = both_true (ltb (start_at bytes k).0 (start_at bytes (suc k)).0) e in
-      let same : k ≡ j = omega arith in
-      let after : ℕ → Type 0 = λ i. ((start_at bytes i).0 < (start_at bytes (suc k)).0) × (loss_at p bytes (suc k) < loss_at p bytes i) in
-      subst after same (ltb-true _ _ both.0, ltb-true _ _ both.1)
-
-  after_all : (k : ℕ) → GoodRow p bytes k → after_good p bytes k ≡ true
-  unfolding after_good
-  after_all zero g = refl
-  after_all (suc k) g = both_hold (lt-ltb _ _ (g.start_rises k (omega arith))) (lt-ltb _ _ (g.loss_falls k (omega arith)))
-
   row_only : (k : ℕ) → row_good p bytes k ≡ true → GoodRow p bytes k
   unfolding row_good
   row_only k e =
@@ -104,15 +87,15 @@ module _ (p : Profile) (bytes : List ℕ) (few : p.n ≤ 8) where
         permitted = permits_only _ _ _ a.0;
         zeros = λ i past to. zeros_only _ (8 - p.n) p.n b.0 i past (omega arith);
         start = eqb-true _ _ c.0;
-        start_rises = λ j f. (after_only k c.1 j f).0;
-        loss_falls = λ j f. (after_only k c.1 j f).1;
+        start_rises = λ j f. (follows_good p bytes k c.1 j f).0;
+        loss_falls = λ j f. (follows_good p bytes k c.1 j f).1;
       }
 
   row_all : (k : ℕ) → GoodRow p bytes k → row_good p bytes k ≡ true
   unfolding row_good
   row_all k g =
       both_hold (permits_all _ _ _ g.permitted)
-      (both_hold (zeros_all _ (8 - p.n) p.n (λ j from to. g.zeros j from (omega arith))) (both_hold (eq-eqb _ _ g.start) (after_all k g)))
+      (both_hold (zeros_all _ (8 - p.n) p.n (λ j from to. g.zeros j from (omega arith))) (both_hold (eq-eqb _ _ g.start) (good_follows p bytes k g)))
 
   checked_from : (m k : ℕ) → k + m ≡ rows_in bytes → ((j : ℕ) → j < k → GoodRow p bytes j) → Checked p bytes (first_bad_from p bytes k m)
   unfolding first_bad_from
@@ -121,7 +104,7 @@ module _ (p : Profile) (bytes : List ℕ) (few : p.n ≤ 8) where
     where
       go : (t : Bool) → row_good p bytes k ≡ t →
           (((j : ℕ) → j < k + 1 → GoodRow p bytes j) → Checked p bytes (first_bad_from p bytes (k + 1) m)) →
-          Checked p bytes (cond t (first_bad_from p bytes (k + 1) m) (k + 1))
+          Checked p bytes (cond t (first_bad_from p bytes (k + 1) m) (Some (k + 1)))
       go true f later = later (below_next {P = GoodRow p bytes} (row_only k f) good)
       go false f later = first_bad {k = k} (record { there = omega arith; bad = λ g. true≢false (sym (row_all k g) ∙ f); before = good })
 

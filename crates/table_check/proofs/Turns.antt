@@ -1,15 +1,17 @@
 -- The turns of the loop over rows and of the loop over a row's periods: what is known before each, and what each way out of it says.
 -- Assumes nothing.
-use mathlib.Core.Path.{◌≡◌, refl, sym, ◌∙◌, ap, ap₂, subst}
+use mathlib.Core.Path.{◌≡◌, refl, sym, ◌∙◌, ap, subst}
 use mathlib.Core.List.{List}
 use mathlib.Core.Logic.{⊎_elim}
-use mathlib.Core.Bool.{Bool, true, false, not, ◌&&◌, true≢false}
+use mathlib.Core.Bool.{Bool, true, false, not, true≢false}
 use Prim.Native.Nat.{ℕ, zero, suc, ◌+◌, ◌≤◌, ◌<◌}
 use native.Mathlib.Nat.{not-suc-le-zero, eq-or-lt_of_le, le_of_suc-le-suc}
+use native.Mathlib.Numerals.{add-one}
 use native.Mathlib.Omega.{arith}
+use Rattle.std.proofs.Common.{Option, Some, None}
 use lib.ListN.{get_or}
 use lib.Dec.{ltb}
-use borrow.Author.Tests.{not-true, not-false, ltb-true, lt-ltb, ne_eqb}
+use borrow.Author.Tests.{not-true, not-false, ltb-true, lt-ltb}
 use Rattle.model.specs.declared.Seconds.{Seconds}
 use Rattle.model.specs.declared.PagesPerHour.{PagesPerHour}
 use Rattle.model.specs.declared.Profile.{Profile}
@@ -20,25 +22,27 @@ use Rattle.model.proofs.Allowing.{both_true, both_hold, allowed, allowed_back}
 use Rattle.step.specs.Step.{load_at, carried, need_at}
 use Rattle.step.proofs.Along.{Along, along_starts, along_allows, along_next, along_beyond, along_permitted, along_need, along_lost}
 use Rattle.table_row.specs.declared.TableRow.{TableRow}
+use Rattle.table_row.specs.declared.Standing.{Standing}
 use Rattle.table_row.specs.Table.{rows_in, start_at, periods_at, loss_at}
 use Rattle.table_row.specs.Cut.{row_at, follows}
 use Rattle.table_check.specs.Formed.{GoodRow}
 use Rattle.table_check.specs.Checks.{Checked, all_good, first_bad}
 
--- before a turn of the loop over rows: those before the k-th are good, and the last of them is known
-pub record RowsLeft (p : Profile) (bytes : List ℕ) (start : PagesPerHour) (loss k : ℕ) : Type 0 where
-  pub upto : k ≤ rows_in bytes
-  pub good : (j : ℕ) → j < k → GoodRow p bytes j
-  pub start_is : (j : ℕ) → k ≡ j + 1 → start ≡ start_at bytes j
-  pub loss_is : (j : ℕ) → k ≡ j + 1 → loss ≡ loss_at p bytes j
+-- where a row of a table stands, and what stands before it
+abbrev pub standing_at : Profile → List ℕ → ℕ → Standing
+standing_at p bytes k = record { start = start_at bytes k; loss = loss_at p bytes k }
 
-pub first_rows : (p : Profile) (bytes : List ℕ) (start : PagesPerHour) (loss : ℕ) → RowsLeft p bytes start loss 0
-first_rows p bytes start loss = record {
-  upto = omega arith;
-  good = λ j h. absurd (not-suc-le-zero h);
-  start_is = λ j e. absurd (omega arith);
-  loss_is = λ j e. absurd (omega arith);
-}
+abbrev pub standing_before : Profile → List ℕ → ℕ → Option Standing
+standing_before p bytes zero = None
+standing_before p bytes (suc k) = Some (standing_at p bytes k)
+
+-- before a turn of the loop over rows: those before the k-th are good, and the last of them is known
+pub record RowsLeft (p : Profile) (bytes : List ℕ) (last : Option Standing) (k : ℕ) : Type 0 where
+  pub good : (j : ℕ) → j < k → GoodRow p bytes j
+  pub last_is : last ≡ standing_before p bytes k
+
+pub first_rows : (p : Profile) (bytes : List ℕ) → RowsLeft p bytes None 0
+first_rows p bytes = record { good = λ j h. absurd (not-suc-le-zero h); last_is = refl }
 
 -- what holds below k and at k holds below k + 1
 pub below_next : {P : ℕ → Type 0} {k : ℕ} → P k → ((j : ℕ) → j < k → P j) → (j : ℕ) → j < k + 1 → P j
@@ -96,71 +100,57 @@ scanned_row {p} {bytes} {k} {row} {i} v e l all =
     }
 
 -- the rule of the row before
-after_one : (j : ℕ) (s t : PagesPerHour) (l m : ℕ) → follows (j + 1) s l t m ≡ (ltb s.0 t.0 && ltb m l)
-unfolding follows
-after_one j s t l m = rw (ne_eqb (j + 1) 0 (omega arith))
+module _ (p : Profile) (bytes : List ℕ) where
+  pub good_follows : (k : ℕ) → GoodRow p bytes k → follows (standing_before p bytes k) (standing_at p bytes k) ≡ true
+  unfolding follows
+  good_follows zero g = refl
+  good_follows (suc k) g = both_hold (lt-ltb _ _ (g.start_rises k (sym (add-one k)))) (lt-ltb _ _ (g.loss_falls k (sym (add-one k))))
 
-after_none : (s t : PagesPerHour) (l m : ℕ) → follows 0 s l t m ≡ true
-unfolding follows
-after_none s t l m = refl
+  pub follows_good : (k : ℕ) → follows (standing_before p bytes k) (standing_at p bytes k) ≡ true →
+      (before : ℕ) → k ≡ before + 1 → ((start_at bytes before).0 < (start_at bytes k).0) × (loss_at p bytes k < loss_at p bytes before)
+  unfolding follows
+  follows_good zero f before e = absurd (omega arith)
+  follows_good (suc k) f before e =
+      let same : before ≡ k = omega arith in
+      let both = both_true (ltb (start_at bytes k).0 (start_at bytes (suc k)).0) f in
+      rw same (ltb-true _ _ both.0, ltb-true _ _ both.1)
 
 -- what the row at hand does to the answer
-module _ {p : Profile} {bytes : List ℕ} {before : PagesPerHour} {lossBefore k : ℕ} (left : RowsLeft p bytes before lossBefore k) where
-  pub no_more : rows_in bytes ≤ k → Checked p bytes 0
+module _ {p : Profile} {bytes : List ℕ} {last : Option Standing} {k : ℕ} (left : RowsLeft p bytes last k) where
+  pub no_more : rows_in bytes ≤ k → Checked p bytes None
   no_more h = all_good (λ j less. left.good j (omega arith))
 
   module _ (less : k < rows_in bytes) where
-    named : (GoodRow p bytes k → ⊥) → Checked p bytes (k + 1)
+    named : (GoodRow p bytes k → ⊥) → Checked p bytes (Some (k + 1))
     named h = first_bad (record { there = less; bad = h; before = left.good })
 
     module _ {row : TableRow} (e : row ≡ row_at bytes k) where
-      pub place_fails : (Permitted (jobs_of p) (periods_of p row.periods) → ⊥) → Checked p bytes (k + 1)
+      pub place_fails : (Permitted (jobs_of p) (periods_of p row.periods) → ⊥) → Checked p bytes (Some (k + 1))
       place_fails f = named (λ g. f (subst (λ (x : TableRow). Permitted (jobs_of p) (periods_of p x.periods)) (sym e) g.permitted))
 
-      pub zero_fails : {i : ℕ} → p.n ≤ i → i < 8 → ((get_or row.periods i (seconds 0)).0 ≡ 0 → ⊥) → Checked p bytes (k + 1)
+      pub zero_fails : {i : ℕ} → p.n ≤ i → i < 8 → ((get_or row.periods i (seconds 0)).0 ≡ 0 → ⊥) → Checked p bytes (Some (k + 1))
       zero_fails {i} past to f = named (λ g. f (ap (λ (x : TableRow). (get_or x.periods i (seconds 0)).0) e ∙ g.zeros i past to))
 
     module _ {row : TableRow} {needs : PagesPerHour} {lost : ℕ} (s : Scanned p bytes k row needs lost) where
-      pub start_fails : (needs.0 ≡ row.start.0 → ⊥) → Checked p bytes (k + 1)
+      pub start_fails : (needs.0 ≡ row.start.0 → ⊥) → Checked p bytes (Some (k + 1))
       start_fails ne = named (λ g. ne (ap (λ (x : PagesPerHour). x.0) s.need_is ∙ g.start ∙ sym (ap (λ (x : PagesPerHour). x.0) s.start_is)))
 
-      -- the rule of the row before, with that row's numbers in hand
-      known : (j : ℕ) → k ≡ j + 1 → follows k before lossBefore row.start lost
-          ≡ (ltb (start_at bytes j).0 (start_at bytes k).0 && ltb (loss_at p bytes k) (loss_at p bytes j))
-      known j e =
-          ap₂ (λ (x : PagesPerHour) (m : ℕ). follows k before lossBefore x m) s.start_is s.loss_is
-          ∙ ap₂ (λ (x : PagesPerHour) (m : ℕ). follows k x m (start_at bytes k) (loss_at p bytes k)) (left.start_is j e) (left.loss_is j e)
-          ∙ ap (λ (i : ℕ). follows i (start_at bytes j) (loss_at p bytes j) (start_at bytes k) (loss_at p bytes k)) e
-          ∙ after_one j (start_at bytes j) (start_at bytes k) (loss_at p bytes j) (loss_at p bytes k)
+      -- the rule of the row before, by the numbers at hand
+      at_hand : follows last (record { start = row.start; loss = lost }) ≡ follows (standing_before p bytes k) (standing_at p bytes k)
+      at_hand = rw (left.last_is, s.start_is, s.loss_is) refl
 
-      good_after : GoodRow p bytes k → (n : ℕ) → k ≡ n → follows k before lossBefore row.start lost ≡ true
-      good_after g zero e = ap (λ (i : ℕ). follows i before lossBefore row.start lost) e ∙ after_none before row.start lossBefore lost
-      good_after g (suc j) e =
-          let f : k ≡ j + 1 = omega arith in
-          known j f ∙ both_hold (lt-ltb _ _ (g.start_rises j f)) (lt-ltb _ _ (g.loss_falls j f))
+      pub order_fails : {t : Bool} → t ≡ follows last (record { start = row.start; loss = lost }) → not t ≡ true → Checked p bytes (Some (k + 1))
+      order_fails d f = named (λ g. true≢false (sym (good_follows p bytes k g) ∙ sym at_hand ∙ sym d ∙ not-true _ f))
 
-      pub order_fails : {t : Bool} → t ≡ follows k before lossBefore row.start lost → not t ≡ true → Checked p bytes (k + 1)
-      order_fails d f = named (λ g. true≢false (sym (good_after g k refl) ∙ sym d ∙ not-true _ f))
-
-      pub next_row : {t : Bool} → needs.0 ≡ row.start.0 → t ≡ follows k before lossBefore row.start lost → not t ≡ false →
-          RowsLeft p bytes row.start lost (k + 1)
-      next_row e d f = record {
-        upto = omega arith;
-        good = below_next {P = GoodRow p bytes} good left.good;
-        start_is = λ j g. (let same : k ≡ j = omega arith in s.start_is ∙ ap (start_at bytes) same);
-        loss_is = λ j g. (let same : k ≡ j = omega arith in s.loss_is ∙ ap (loss_at p bytes) same);
-      }
-        where
-          after : (j : ℕ) → k ≡ j + 1 → ((start_at bytes j).0 < (start_at bytes k).0) × (loss_at p bytes k < loss_at p bytes j)
-          after j g =
-              let both = both_true (ltb (start_at bytes j).0 (start_at bytes k).0) (sym (known j g) ∙ sym d ∙ not-false _ f) in
-              (ltb-true _ _ both.0, ltb-true _ _ both.1)
-
-          good : GoodRow p bytes k
-          good = record {
+      pub next_row : {t : Bool} → needs.0 ≡ row.start.0 → t ≡ follows last (record { start = row.start; loss = lost }) → not t ≡ false →
+          RowsLeft p bytes (Some (record { start = row.start; loss = lost })) (k + 1)
+      next_row e d f =
+          let after = follows_good p bytes k (sym at_hand ∙ sym d ∙ not-false _ f) in
+          let good : GoodRow p bytes k = record {
             permitted = s.permitted;
             zeros = s.zeros;
             start = sym (ap (λ (x : PagesPerHour). x.0) s.need_is) ∙ e ∙ ap (λ (x : PagesPerHour). x.0) s.start_is;
             start_rises = λ j g. (after j g).0;
             loss_falls = λ j g. (after j g).1;
-          }
+          } in
+          record { good = below_next {P = GoodRow p bytes} good left.good; last_is = rw (add-one k, s.start_is, s.loss_is) refl }

@@ -20,10 +20,11 @@ use Rattle.walk.specs.Laws.{Sorted}
 use Rattle.walk.proofs.Sorted.{not_after_self}
 use Rattle.walk.proofs.Chains.{multiples_lists, chains_only, chains_all, chains_sorted}
 use Rattle.walk.proofs.Walk.{walk_all}
-use Rattle.table_climb.specs.Collected.{Ordered, Plan, Law, Served, Serves, Collected}
+use Rattle.table_stairs.specs.Ordered.{Ordered}
+use Rattle.table_climb.specs.Collected.{Plan, Law, Served, Serves, Collected}
 use Rattle.table_stairs.proofs.Updates.{covers}
-use Rattle.table_climb.proofs.Order.{among_new, among_some, among_in, among_has}
-use Rattle.table_climb.proofs.Ordered.{entered, Limited, Entry, enter_either}
+use Rattle.table_stairs.proofs.Order.{among_new, among_some, among_in, among_has}
+use Rattle.table_stairs.proofs.Ordered.{entered, Limited, Entry, enter_either}
 
 -- by the same row, among others
 pub still_served : {js : List Job} {rows : List Stair} (others : List Stair) {us : List Seconds} (a : Served js rows us) → Memᴰ a.by.row others → Served js others us

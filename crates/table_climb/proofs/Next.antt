@@ -17,7 +17,8 @@ use Rattle.model.proofs.Bounds.{job_loss_bound}
 use Rattle.walk.specs.Walk.{start, walk}
 use Rattle.table_stairs.specs.Stairs.{Stair, Stairs, no_bound, no_stairs, enter}
 use Rattle.table_climb.specs.Next.{Answer, NextAnswers, AnswersUnder}
-use Rattle.table_climb.specs.Collected.{Staircase, Plan, Served, Collected}
+use Rattle.table_stairs.specs.Ordered.{Staircase}
+use Rattle.table_climb.specs.Collected.{Plan, Served, Collected}
 use Rattle.table_climb.proofs.Fold.{still_served, walk_collects}
 
 less_loss : {js : List Job} (ts us : List Seconds) → loss js ts < loss js us → NoWorse js ts us

@@ -1,24 +1,11 @@
--- The staircase that a walk leaves: its rows in order, and which lists they serve. No public contract cites this. Assumes nothing.
+-- The staircase that a walk leaves: plans in order, and which lists they serve. No public contract cites this. Assumes nothing.
 use Rattle.std.specs.Prelude.{◌≡◌, ℕ, ◌≤◌, ◌<◌, length}
 use mathlib.Core.List.{List, [], Memᴰ}
 use Rattle.model.specs.declared.Seconds.{Seconds}
 use Rattle.model.specs.declared.Job.{Job}
-use Rattle.model.specs.Model.{Rising, Permitted, need, loss, NotAfter}
+use Rattle.model.specs.Model.{Permitted, need, loss, NotAfter}
 use Rattle.table_stairs.specs.Stairs.{Stair, Stairs, no_bound, Covering}
-
--- The first row loses less and needs more.
-pub record Above (r s : Stair) : Type 0 where
-  pub loses : r.its_loss < s.its_loss
-  pub needs : s.its_need < r.its_need
-
--- Each row stands above every later one.
-abbrev pub Staircase : List Stair → Type 0
-Staircase rows = Rising Above rows
-
--- The rows rise in loss, fall in need, and lose less than the bound.
-pub record Ordered (s : Stairs) : Type 0 where
-  pub order : Staircase s.rows
-  pub bounded : (r : Stair) → Memᴰ r s.rows → r.its_loss < s.bound
+use Rattle.table_stairs.specs.Ordered.{Ordered}
 
 -- A row is a permitted plan that fits, with its own need and loss.
 pub record Plan (js : List Job) (b : ℕ) (r : Stair) : Type 0 where

@@ -1,13 +1,11 @@
--- The next answers under a budget: what a staircase holds once all permitted lists were visited, and how a caller gets them.
+-- The next answers under a budget: what a staircase holds once all permitted lists were visited.
 -- Contracts of inner functions cite this, and those of no entry point. Assumes nothing.
-use Rattle.std.specs.Prelude.{◌≡◌, List, [], ◌∷◌, ℕ, suc, ◌≤◌, ◌<◌, length, get_or}
+use Rattle.std.specs.Prelude.{◌≡◌, List, [], ◌∷◌, ℕ, suc, length}
 use Rattle.model.specs.declared.Seconds.{Seconds}
 use Rattle.model.specs.declared.PagesPerHour.{PagesPerHour}
 use Rattle.model.specs.declared.Job.{Job}
-use Rattle.model.specs.declared.Profile.{Profile}
-use Rattle.model.specs.Model.{jobs_of, Permitted, need, FitsBudget, loss, Best}
+use Rattle.model.specs.Model.{Permitted, need, FitsBudget, loss, Best}
 use Rattle.table_stairs.specs.Stairs.{Stair}
-use Rattle.table_stairs.specs.Rows.{most, stair_at, stairs_in, Legible}
 
 -- A row is the best plan for the greatest budget below `limit`, with its own need and loss.
 pub record Answer (js : List Job) (limit : ℕ) (r : Stair) : Type 0 where
@@ -31,11 +29,3 @@ last_need limit (r ∷ rows) = last_need r.its_need rows
 pub record AnswersUnder (js : List Job) (b : PagesPerHour) (rows : List Stair) : Type 0 where
   pub next : NextAnswers js (suc b.0) rows
   pub none : length rows ≡ 0 → (ts : List Seconds) → Permitted js ts → FitsBudget js ts b → ⊥
-
--- The first r rows of an array are the next answers under a budget.
-pub record AnswersIn (p : Profile) (b : PagesPerHour) (r : ℕ) (flat : List ℕ) : Type 0 where
-  pub size : length flat ≡ 768
-  pub few : r ≤ most
-  pub under : AnswersUnder (jobs_of p) b (stairs_in p.n r flat)
-  pub rows : (d : Stair) (k : ℕ) → k < r → get_or (stairs_in p.n r flat) k d ≡ stair_at p.n flat k
-  pub legible : (k : ℕ) → k < r → Legible p.n flat k

@@ -1,125 +1,127 @@
-// Plans that enter a staircase: whether a plan may, and how it does.
+// A staircase of answers: at most 256 plans in rising loss and falling need, and how one more enters.
 //
-// specs/Rows.antt of table_stairs says what is promised of the rows. These functions serve other crates of the planner, and
-// their callers meet what is required. Nothing is assumed.
+// specs/Stairs.antt of table_stairs says what a staircase keeps and how a plan enters it. These functions serve other crates of the
+// planner, and their callers meet what is required. Nothing is assumed.
 #![tactic(auto)]
 
-ghost use Rattle.std.specs.Prelude.{◌≡◌, false, ◌≤◌, ◌<◌, get_or};
-ghost use Rattle.step.specs.Step.{NeedFits};
-ghost use Rattle.walk.specs.Steps.{ReadyForCut};
-ghost use Rattle.table_stairs.specs.Stairs.{no_bound};
-ghost use Rattle.table_stairs.specs.Rows.{Rises, Place, Standing, PutsStair, Enters, EntersNothing};
+ghost use Rattle.std.specs.Prelude.{◌≡◌, ◌&&◌, not, ◌≤◌, ◌<◌, length, leb, ltb};
+ghost use Rattle.table_stairs.specs.Stairs.{most, no_bound, no_stairs, covered, at_most, enter};
+ghost use Rattle.table_stairs.specs.Ordered.{Staircase, Ordered, replaced};
+ghost use Rattle.table_stairs.proofs.Ordered.{stairs_absorb};
 
-use model::{PagesPerHour, Seconds};
+use model::{ExactNeed, PagesPerHour, Seconds};
+use std::marker::Model;
+use table_stairs::Stair;
+use walk::Keep;
 
-// The greatest number of rows, and where the last of them has its loss.
+// The greatest number of rows.
 const MOST: usize = 256;
 
-const LAST_LOSS: usize = 767;
+// More than any loss. A bound, and no mark for none: every loss lies below it by the one comparison that a turn makes.
+const NO_BOUND: u64 = 0xffff_ffff_ffff_ffff;
 
-// The marks: how many rows there are, and the bound on the loss of what may still enter.
-pub const COUNT: usize = 0;
-
-pub const BOUND: usize = 1;
-
-// Whether a plan that begins so could enter: jobs i to n are still to come, and the loss is at least `floor`.
-pub fn may_enter(
-    spans: &[u32; 16],
-    rates: &[u32; 17],
-    i: usize,
-    n: usize,
-    budget: PagesPerHour,
-    t: Seconds,
-    written: u64,
-    floor: u64,
-    rows: &[u64; 768],
-    marks: &[u64; 2],
-) -> bool
-    requires ready_for_cut { ReadyForCut spans.now rates.now i n t written }
-    requires floor_lt_no_bound { floor < no_bound }
-    requires marks_bound { get_or marks.now 0 0 ≤ 256 }
-    requires rises { Rises (get_or marks.now 0 0) rows.now }
-    ensures { result ≡ false → EntersNothing spans.now rates.now i n budget t written floor rows.now marks.now }
-{
-    let need_floor = walk::need_floor(rates, i, t, written);
-    if budget.0 < need_floor.0 {
-        return false;
-    }
-    let count = marks[COUNT] as usize;
-    if table_stairs::covers(rows, count, need_floor, floor) {
-        return false;
-    }
-    walk::reaches(spans, i, n, t)
+// At most 256 plans in rising loss and falling need, and the bound on the loss of what may still enter.
+#[derive(Drop)]
+pub struct Stairs {
+    rows: [Stair; MOST],
+    count: usize,
+    bound: u64,
 }
 
-// One whole plan: it enters if it fits the budget, loses less than the bound, and no row covers it.
-pub fn enter_plan(
-    n: usize,
-    budget: PagesPerHour,
-    t: Seconds,
-    written: u64,
-    lost: u64,
-    periods: &[u32; 8],
-    rows: &mut [u64; 768],
-    marks: &mut [u64; 2],
-)
-    requires need_fits { NeedFits written t }
-    requires lost_lt_no_bound { lost < no_bound }
-    requires standing { Standing n periods.now rows.old marks.old }
-    ensures { Enters n budget t written lost periods.now rows.old marks.old rows.new marks.new }
-{
-    let exact = step::exact_need(written, t);
-    let need = step::rounded_up(exact);
-    if budget.0 < need.0 {
-        return;
-    }
-    if marks[BOUND] <= lost {
-        return;
-    }
-    let count = marks[COUNT] as usize;
-    if table_stairs::covers(rows, count, need, lost) {
-        return;
-    }
-    let i = table_stairs::losing_less(rows, count, lost);
-    let j = table_stairs::needing_less(rows, i, count, need);
-    put_plan(n, need, lost, periods, i, j, rows, marks);
+impl Model for Stairs {
+    ghost use Rattle.table_stairs.specs.Stairs.{most, Stairs};
+
+    ghost Value = { Stairs };
+
+    ghost use Rattle.table_stairs.specs.Ordered.{stairs_of, Standing};
+
+    ghost view = { λ s. stairs_of s.rows s.count s.bound };
+
+    ghost invariant = { λ s. Standing most s.rows s.count s.bound };
 }
 
-// A plan becomes the row at place i, where the rows from there to place j leave. Of too many rows the last one leaves, and
-// its loss becomes the bound.
-fn put_plan(
-    n: usize,
-    need: PagesPerHour,
-    loss: u64,
-    periods: &[u32; 8],
-    i: usize,
-    j: usize,
-    rows: &mut [u64; 768],
-    marks: &mut [u64; 2],
-)
-    requires standing { Standing n periods.now rows.old marks.old }
-    requires place { Place (get_or marks.old 0 0) rows.old need.0 loss i j }
-    requires loss_bound { loss < get_or marks.old 1 0 }
-    ensures { PutsStair n need.0 loss i j periods.now rows.old marks.old rows.new marks.new }
-{
-    let count = marks[COUNT] as usize;
-    if i < j {
-        table_stairs::close_gap(rows, i, j, count);
-        table_stairs::store_row(need, loss, periods, i, rows);
-        marks[COUNT] = (i + 1 + (count - j)) as u64;
-        return;
+impl Stairs {
+    // No plan stands, and any may enter.
+    pub fn new() -> Stairs
+        ensures { result ≡ no_stairs }
+    {
+        Stairs {
+            rows: [Stair::new(PagesPerHour(0), 0, &[]); MOST],
+            count: 0,
+            bound: NO_BOUND,
+        }
     }
-    if count < MOST {
-        table_stairs::open_gap(rows, i, count);
-        table_stairs::store_row(need, loss, periods, i, rows);
-        marks[COUNT] = (count + 1) as u64;
-        return;
+
+    // All plans leave.
+    pub fn clear(&mut self)
+        ensures { self.new ≡ no_stairs }
+    {
+        self.count = 0;
+        self.bound = NO_BOUND;
     }
-    if i == MOST {
-        marks[BOUND] = loss;
-        return;
+
+    // The plans that stand, the least loss first.
+    pub fn rows(&self) -> &[Stair]
+        ensures rows { result.now ≡ self.now.rows }
+        ensures few { length result.now ≤ most }
+        ensures in_order { Staircase result.now }
+    {
+        &self.rows[..self.count]
     }
-    marks[BOUND] = rows[LAST_LOSS];
-    table_stairs::open_gap(rows, i, MOST - 1);
-    table_stairs::store_row(need, loss, periods, i, rows);
+
+    // Whether a plan enters.
+    fn takes(&self, budget: PagesPerHour, need: PagesPerHour, loss: u64) -> bool
+        requires { loss < no_bound }
+        ensures { result ≡ (leb need.0 budget.0 && (ltb loss self.now.bound && not (covered need.0 loss self.now.rows))) }
+    {
+        need <= budget && loss < self.bound && !table_stairs::covers(self.rows(), need, loss)
+    }
+
+    // A plan takes the place of the rows from i to j. Of too many rows the last one leaves, and its loss becomes the bound.
+    fn put(&mut self, i: usize, j: usize, row: Stair)
+        requires order { i ≤ j }
+        requires upto { j ≤ length self.old.rows }
+        requires in_order { Ordered (at_most most (replaced i j row self.old.rows) self.old.bound) }
+        ensures { self.new ≡ at_most most (replaced i j row self.old.rows) self.old.bound }
+    {
+        let behind = self.count - j;
+        let count = i + 1 + behind;
+        if count <= MOST {
+            table_stairs::replace(&mut self.rows, i, j, self.count, row);
+            self.count = count;
+        } else if i < MOST {
+            self.bound = self.rows[MOST - 1].loss();
+            table_stairs::replace(&mut self.rows, i, j, MOST - 1, row);
+        } else {
+            self.bound = row.loss();
+        }
+    }
+}
+
+impl Keep for Stairs {
+    ghost Good = { Ordered };
+
+    ghost update = { λ budget. enter most budget.0 };
+
+    ghost absorbs = { λ budget. stairs_absorb budget.0 };
+
+    // Whether no plan that loses at least `floor` enters.
+    fn is_done(&self, floor: u64) -> bool {
+        self.bound <= floor
+    }
+
+    // Whether a plan of at least this need and this loss could enter.
+    fn could_take(&self, budget: PagesPerHour, need_floor: PagesPerHour, floor: u64) -> bool {
+        need_floor <= budget && !table_stairs::covers(self.rows(), need_floor, floor)
+    }
+
+    // One whole plan: it enters if it fits the budget, loses less than the bound, and no row covers it.
+    fn offer(&mut self, budget: PagesPerHour, need: ExactNeed, loss: u64, periods: &[Seconds]) {
+        let start = step::rounded_up(need);
+        if self.takes(budget, start, loss) {
+            let i = table_stairs::losing_less(self.rows(), loss);
+            let j = table_stairs::needing_less(self.rows(), i, start);
+            self.put(i, j, Stair::new(start, loss, periods));
+        }
+    }
 }

@@ -17,6 +17,7 @@ use Rattle.model.proofs.Entries.{length_entries, entries_front, entries_all, ent
 use Rattle.codec.specs.Packing.{bits, recut}
 use Rattle.codec.specs.Layout.{byte_widths}
 use Rattle.codec.specs.Fit.{Within, Bytes}
+use Rattle.model.proofs.Allowing.{permitted_length}
 use Rattle.codec.proofs.Packing.{recut_back, recut_within}
 use Rattle.table.specs.Table.{table_bytes}
 use Rattle.table.proofs.Best.{need_small}
@@ -25,13 +26,6 @@ use Rattle.table_row.specs.Table.{table_widths, table_row, row_fields, start_at,
 use Rattle.table_row.proofs.Words.{seconds_again, length_table_row}
 
 -- One row.
-
--- a permitted list has a period for each job
-pub permitted_length : (before : Seconds) (js : List Job) (ts : List Seconds) → PermittedAfter before js ts → length ts ≡ length js
-permitted_length before [] [] h = refl
-permitted_length before [] (t ∷ ts) h = absurd h
-permitted_length before (j ∷ js) [] h = absurd h
-permitted_length before (j ∷ js) (t ∷ ts) h = ap suc (permitted_length t js ts h.1)
 
 -- eight entries are the list and the zeros behind it
 eight_entries : (ts : List Seconds) → length ts ≤ 8 → entries (seconds 0) ts 0 8 ≡ padded (seconds 0) ts

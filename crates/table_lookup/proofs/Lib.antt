@@ -1,7 +1,9 @@
 pub mod Computed
 pub mod Finding
+mod Handed
 pub mod HandedBack
 pub mod InOrder
+mod Judged
 pub mod Laid
 mod LastWithin
 pub mod LookedUp

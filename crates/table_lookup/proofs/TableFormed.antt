@@ -16,7 +16,8 @@ use Rattle.table.proofs.Outcome.{length_table}
 use Rattle.table.proofs.TableRows.{get_d_padded}
 use Rattle.table_row.specs.Table.{rows_in, start_at, periods_at, loss_at}
 use Rattle.table_check.specs.Formed.{GoodRow, WellFormed}
-use Rattle.table_lookup.proofs.Laid.{Laid, row_member, permitted_length, few_jobs, laid_alone, start_at_lem, periods_at_lem, list_at_lem, loss_at_lem}
+use Rattle.model.proofs.Allowing.{permitted_length}
+use Rattle.table_lookup.proofs.Laid.{Laid, row_member, few_jobs, laid_alone, start_at_lem, periods_at_lem, list_at_lem, loss_at_lem}
 use Rattle.table_lookup.proofs.InOrder.{table_permitted, starts_rise, losses_fall_along}
 
 module _ (p : Profile) (v : Valid p) {rows : List (List Seconds)} (t : TableOf (jobs_of p) rows) {bytes : List ℕ} (l : Laid (jobs_of p) rows bytes) where

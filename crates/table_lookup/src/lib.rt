@@ -6,77 +6,73 @@
 #![tactic(auto)]
 
 ghost use Rattle.std.specs.Prelude.{ℕ};
+ghost use Rattle.model.specs.Valid.{Valid};
 ghost use Rattle.table_lookup.specs.Lookup.{Answers, Locates, JudgesLookup, LooksUp};
 
-use model::{Counted, PagesPerHour, Profile, ROW_SIZE, Verdict};
+use model::{PagesPerHour, Profile, ROW_SIZE, Refusal, Verdict};
 
 // The row that answers a budget: its bytes where they lie in the caller's table; an empty part on a refusal.
+#[tactic(auto, using(crate::proofs::Handed::none_handed, crate::proofs::Handed::row_within, crate::proofs::OneOutcome::sound_number, crate::proofs::Handed::row_handed))]
 pub fn lookup<'a>(p: Profile, table: &'a [u8], budget: PagesPerHour) -> &'a [u8]
     ensures { LooksUp p table.now table.entry.ref_ptr budget result.now result.ref_ptr }
 {
-    let found = locate(p, table, budget);
-    let v = found.verdict;
-    let Verdict::Sound = v else {
+    let Ok(row) = locate(p, table, budget) else {
         return &table[0..0];
     };
-    let end = ROW_SIZE * (found.count as usize);
+    let end = ROW_SIZE * (row as usize);
     &table[end - ROW_SIZE..end]
 }
 
-// The number of that row, counted from 1; 0 beside a refusal.
-pub fn locate(p: Profile, table: &[u8], budget: PagesPerHour) -> Counted
+// The number of that row, counted from 1.
+#[tactic(auto, using(crate::proofs::OneOutcome::refused_located, crate::proofs::OneOutcome::some_answers, crate::proofs::OneOutcome::row_located))]
+pub fn locate(p: Profile, table: &[u8], budget: PagesPerHour) -> Result<u64, Refusal>
     ensures { Locates p table.now budget result }
 {
-    let v = judge_lookup(p, table, budget);
-    let Verdict::Sound = v else {
-        return Counted {
-            verdict: v,
-            count: 0,
-        };
-    };
+    judge_lookup(p, table, budget)?;
     let row = last_within(table, budget) + 1;
-    Counted {
-        verdict: Verdict::Sound,
-        count: row as u64,
-    }
+    Ok(row as u64)
 }
 
 // The verdict by itself: sound where a row answers.
+#[tactic(auto, using(model::proofs::Validity::judged_valid, crate::proofs::Judged::refused_judged))]
 pub fn judge_lookup(p: Profile, table: &[u8], budget: PagesPerHour) -> Verdict
     ensures { JudgesLookup p table.now budget result }
 {
-    let v = profile_judge::judge(p);
-    let Verdict::Sound = v else {
-        return v;
+    let Err(refusal) = profile_judge::judge(p) else {
+        return judge_sound(p, table, budget);
     };
-    if table.len() == 0 {
-        return Verdict::Row(0);
-    }
-    if table.len() % ROW_SIZE != 0 {
-        return Verdict::Row(0);
-    }
-    let bad = table_check::first_bad_row(p, table);
-    if 0 < bad {
-        return Verdict::Row(bad as u64);
-    }
-    let start = table_row::start_at(table, 0);
-    if budget.0 < start.0 {
-        return Verdict::Budget(start);
-    }
-    Verdict::Sound
+    Err(refusal)
 }
 
-// The last row whose start is at most the budget, counted from 0, where there is one.
+// The same for a sound profile.
+#[tactic(auto, using(crate::proofs::Judged::length_judged, crate::proofs::Judged::row_judged, crate::proofs::Judged::budget_judged, crate::proofs::Judged::sound_judged))]
+fn judge_sound(p: Profile, table: &[u8], budget: PagesPerHour) -> Verdict
+    requires { Valid p }
+    ensures { JudgesLookup p table.now budget result }
+{
+    if table.is_empty() || table.len() % ROW_SIZE != 0 {
+        return Err(Refusal::Row(0));
+    }
+    if let Some(bad) = table_check::first_bad_row(p, table) {
+        return Err(Refusal::Row(bad as u64));
+    }
+    let start = table_row::start_at(table, 0);
+    if budget < start {
+        return Err(Refusal::Budget(start));
+    }
+    Ok(())
+}
+
+// The last row whose start is at most the budget, counted from 0: the first where no later one is, since there is one.
+#[tactic(auto, using(crate::proofs::LastWithin::none_above, crate::proofs::LastWithin::one_above, crate::proofs::LastWithin::last_above, crate::proofs::LastWithin::first_left))]
 fn last_within(table: &[u8], budget: PagesPerHour) -> usize
     requires { (k : ℕ) × Answers table.now budget k }
     ensures { Answers table.now budget result }
 {
-    let mut k = table.len() / ROW_SIZE;
-    while 0 < k {
-        if table_row::start_at(table, k - 1).0 <= budget.0 {
-            return k - 1;
+    for k in (1..table.len() / ROW_SIZE).rev() {
+        if table_row::start_at(table, k) <= budget {
+            return k;
         }
-        k -= 1;
     }
     0
 }

@@ -6,7 +6,7 @@ use Rattle.model.specs.Model.{pages_per_hour}
 use Rattle.table_row.specs.declared.TableRow.{TableRow}
 use Rattle.table_row.proofs.put_row.Reads as put-row-contract
 use Rattle.table_row.proofs.start_of.Reads as start-of-contract
-use Rattle.table_row.proofs.cut_row.Reads as cut-row-contract
+use Rattle.table_row.proofs.TableRowFromRowWords.from.Reads as cut-row-contract
 
 pub put_row_one_outcome : (κs : _) (a : _) (r s : _) (e e' : _) → put-row-contract.Post κs a r e → put-row-contract.Post κs a s e' → e.0.now ≡ e'.0.now
 put_row_one_outcome κs a r s e e' one other = one ∙ sym other

@@ -8,7 +8,7 @@ use native.Mathlib.Nat.{mod-lt}
 use native.Mathlib.Decide.{dec_lt}
 use native.Mathlib.Omega.{arith}
 use lib.Arith.{digits_lt}
-use lib.Pow.{pow_pos, split, high, low}
+use lib.Pow.{pow_pos, shr_lt, split, high, low}
 use lib.ListN.{length, get_or, take, drop, length-take, length-drop, length-map, get_or-eq_default}
 use lib.Seq.{get_or-take, drop-cons}
 use Rattle.model.specs.declared.Seconds.{Seconds}
@@ -19,11 +19,11 @@ use Rattle.codec.specs.Packing.{bits, pack, unpack, recut}
 use Rattle.codec.specs.Layout.{byte_widths}
 use Rattle.codec.specs.RowWords.{row_bytes}
 use Rattle.codec.specs.Fit.{Within}
-use Rattle.codec.proofs.Packing.{unpack_pack, pack_unpack, length_unpack, length_recut}
+use Rattle.codec.proofs.Packing.{pack_lt, unpack_pack, pack_unpack, length_unpack, length_recut}
 use Rattle.codec.proofs.Rows.{row_of_words}
 use Rattle.table_row.specs.Table.{table_widths, table_row}
 use Rattle.table_row.specs.Cut.{words_of, word_fields, word_start, word_periods, Fields}
-use Rattle.table_row.proofs.Cutting.{cut_words}
+use Rattle.table_row.proofs.Cutting.{high_widths, low_widths, start_cut}
 
 -- The numbers of a row.
 
@@ -35,6 +35,11 @@ numbers_again (x ∷ xs) = ap (λ (l : List ℕ). x ∷ l) (numbers_again xs)
 pub seconds_again : (ts : List Seconds) → map seconds (map (λ t. t.0) ts) ≡ ts
 seconds_again [] = refl
 seconds_again (t ∷ ts) = ap (λ (l : List Seconds). t ∷ l) (seconds_again ts)
+
+number_at : (ts : List Seconds) (k : ℕ) → get_or (map (λ t. t.0) ts) k 0 ≡ (get_or ts k (seconds 0)).0
+number_at [] k = refl
+number_at (t ∷ ts) zero = refl
+number_at (t ∷ ts) (suc k) = number_at ts k
 
 -- the bytes of a row of eight periods
 row_of_eight : (start : ℕ) (ps : List ℕ) → length ps ≡ 8 → table_row (pages_per_hour start) (map seconds ps) ≡ recut table_widths (byte_widths row_size) (start ∷ ps)
@@ -66,35 +71,36 @@ row_of_front start n ps zeros = ap (λ (ts : List Seconds). recut table_widths (
     same : (k : ℕ) → get_or (map seconds (take n ps)) k (seconds 0) ≡ get_or (map seconds ps) k (seconds 0)
     same k = second_at (take n ps) k ∙ ap seconds (at k (dec_lt k n)) ∙ sym (second_at ps k)
 
--- Put together.
+-- Put together: the third period's upper eight bits end the first word, and its lower four begin the second.
 
-module _ (start : ℕ) (ps : List ℕ) (f : Fields ps) where
-  each_within : start < 2 ^ 32 → Within table_widths (start ∷ entries 0 ps 0 8)
-  unfolding entries
-  each_within small = omega arith
+module _ (start : ℕ) (ts : List Seconds) (f : Fields (map (λ t. t.0) ts)) where
+  abbrev number : ℕ → ℕ
+  number k = (get_or ts k (seconds 0)).0
 
-  fields_within : start < 2 ^ 32 → Within table_widths (start ∷ ps)
-  fields_within small = subst (λ (l : List ℕ). Within table_widths (start ∷ l)) (entries_all 0 ps f.size) (each_within small)
+  abbrev high_fields : List ℕ
+  high_fields = start ∷ number 0 ∷ number 1 ∷ number 2 / 16 ∷ []
 
-  -- the words as they are added up
-  abbrev high_sum : ℕ
-  high_sum = start * 2 ^ 32 + (get_or ps 0 0 * 2 ^ 20 + (get_or ps 1 0 * 2 ^ 8 + get_or ps 2 0 / 2 ^ 4))
+  abbrev low_fields : List ℕ
+  low_fields = number 2 % 16 ∷ number 3 ∷ number 4 ∷ number 5 ∷ number 6 ∷ number 7 ∷ []
 
-  abbrev low_sum : ℕ
-  low_sum = get_or ps 2 0 % 2 ^ 4 * 2 ^ 60 + (get_or ps 3 0 * 2 ^ 48 + (get_or ps 4 0 * 2 ^ 36 + (get_or ps 5 0 * 2 ^ 24 + (get_or ps 6 0 * 2 ^ 12 + get_or ps 7 0))))
+  low_small : pack low_widths low_fields < 2 ^ 64
+  unfolding bits
+  low_small = pack_lt low_widths low_fields (omega (arith, number_at ts 3, number_at ts 4, number_at ts 5, number_at ts 6, number_at ts 7))
 
-  each_added : pack table_widths (start ∷ entries 0 ps 0 8) ≡ high_sum * 2 ^ 64 + low_sum
+  each_added : pack table_widths (start ∷ map (λ t. t.0) (entries (seconds 0) ts 0 8)) ≡ pack high_widths high_fields * 2 ^ 64 + pack low_widths low_fields
   unfolding pack bits entries
   each_added = omega arith
 
-  added : pack table_widths (start ∷ ps) ≡ high_sum * 2 ^ 64 + low_sum
-  added = ap (λ (l : List ℕ). pack table_widths (start ∷ l)) (sym (entries_all 0 ps f.size)) ∙ each_added
+  added : pack table_widths (start ∷ map (λ t. t.0) ts) ≡ pack high_widths high_fields * 2 ^ 64 + pack low_widths low_fields
+  added =
+      let eight : length ts ≡ 8 = sym (length-map ts (λ t. t.0)) ∙ f.size in
+      ap (λ (us : List Seconds). pack table_widths (start ∷ map (λ t. t.0) us)) (sym (entries_all (seconds 0) ts eight)) ∙ each_added
 
-  low_small : low_sum < 2 ^ 64
-  low_small = omega arith
-
-  pub words_added : record { high = high_sum; low = low_sum } ≡ words_of start ps
-  words_added = λ i. record { high = (sym (ap (λ (x : ℕ). x / 2 ^ 64) added ∙ high high_sum 64 low_small)) i; low = (sym (ap (λ (x : ℕ). x % 2 ^ 64) added ∙ low high_sum 64 low_small)) i }
+  pub words_added : {high_word low_word : ℕ} → high_word ≡ pack high_widths high_fields → low_word ≡ pack low_widths low_fields →
+      record { high = high_word; low = low_word } ≡ words_of start (map (λ t. t.0) ts)
+  words_added first second =
+      let H = pack high_widths high_fields in
+      rw (first, second, added, high H 64 low_small, low H 64 low_small) refl
 
 -- Cut apart.
 
@@ -107,9 +113,9 @@ module _ (h l : ℕ) where
   length_periods = length-drop 1 (word_fields h l) ∙ omega (arith, length_fields)
 
   -- the start is the first field
-  pub start_first : l < 2 ^ 64 → word_start h ∷ word_periods h l ≡ word_fields h l
-  start_first small =
-      ap (λ (x : ℕ). x ∷ word_periods h l) (sym (ap (λ (fs : List ℕ). get_or fs 0 0) (cut_words h l small)))
+  pub start_first : h < 2 ^ 64 → l < 2 ^ 64 → word_start h ∷ word_periods h l ≡ word_fields h l
+  start_first hh ll =
+      ap (λ (x : ℕ). x ∷ word_periods h l) (start_cut h l hh ll)
       ∙ sym (drop-cons (word_fields h l) 0 0 (omega (arith, length_fields)))
 
   packed : h < 2 ^ 64 → l < 2 ^ 64 → pack table_widths (word_fields h l) ≡ h * 2 ^ 64 + l
@@ -120,17 +126,27 @@ module _ (h l : ℕ) where
   pub row_of_cut : h < 2 ^ 64 → l < 2 ^ 64 → table_row (pages_per_hour (word_start h)) (map seconds (word_periods h l)) ≡ row_bytes h l
   row_of_cut hh hl =
       row_of_eight (word_start h) (word_periods h l) length_periods
-      ∙ ap (recut table_widths (byte_widths row_size)) (start_first hl)
+      ∙ ap (recut table_widths (byte_widths row_size)) (start_first hh hl)
       ∙ row_of_words table_widths (word_fields h l) h l (packed hh hl) hh hl
 
 -- what is put together is cut apart
 module _ (start : ℕ) (ps : List ℕ) (f : Fields ps) (small : start < 2 ^ 32) where
+  each_within : Within table_widths (start ∷ entries 0 ps 0 8)
+  unfolding entries
+  each_within = omega arith
+
+  fields_within : Within table_widths (start ∷ ps)
+  fields_within = subst (λ (l : List ℕ). Within table_widths (start ∷ l)) (entries_all 0 ps f.size) each_within
+
   fields_back : word_fields (words_of start ps).high (words_of start ps).low ≡ start ∷ ps
   unfolding word_fields
-  fields_back = ap (unpack table_widths) (split (pack table_widths (start ∷ ps)) 64) ∙ unpack_pack table_widths (start ∷ ps) (fields_within start ps f small)
+  fields_back = ap (unpack table_widths) (split (pack table_widths (start ∷ ps)) 64) ∙ unpack_pack table_widths (start ∷ ps) fields_within
 
   both_back : word_start (words_of start ps).high ∷ word_periods (words_of start ps).high (words_of start ps).low ≡ start ∷ ps
-  both_back = start_first (words_of start ps).high (words_of start ps).low (mod-lt (pack table_widths (start ∷ ps)) (pow_pos 64)) ∙ fields_back
+  unfolding bits
+  both_back =
+      let whole = pack table_widths (start ∷ ps) in
+      start_first (words_of start ps).high (words_of start ps).low (shr_lt 64 64 (pack_lt table_widths (start ∷ ps) fields_within)) (mod-lt whole (pow_pos 64)) ∙ fields_back
 
   pub start_back : word_start (words_of start ps).high ≡ start
   start_back = ap (λ (l : List ℕ). get_or l 0 0) both_back

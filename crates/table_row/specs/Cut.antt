@@ -1,11 +1,11 @@
 -- A table row as the code holds it, a start and eight periods or two words, and its place after another. The contracts of the
 -- functions that put rows together and cut them apart cite this, and those of no entry point. Assumes nothing.
-use Rattle.std.specs.Prelude.{◌≡◌, List, ◌∷◌, map, Bool, ◌&&◌, ◌||◌, ℕ, ◌+◌, ◌*◌, ◌/◌, ◌%◌, ◌^◌, ◌≤◌, length, get_or, drop, eqb, ltb}
-use Rattle.model.specs.declared.PagesPerHour.{PagesPerHour}
+use Rattle.std.specs.Prelude.{◌≡◌, List, ◌∷◌, map, Bool, true, ◌&&◌, ℕ, ◌+◌, ◌*◌, ◌/◌, ◌%◌, ◌^◌, ◌≤◌, length, get_or, drop, ltb, Option, Some, None}
 use Rattle.model.specs.Model.{seconds, pages_per_hour}
 use Rattle.codec.specs.declared.RowWords.{RowWords}
 use Rattle.codec.specs.Packing.{pack, unpack}
 use Rattle.table_row.specs.declared.TableRow.{TableRow}
+use Rattle.table_row.specs.declared.Standing.{Standing}
 use Rattle.table_row.specs.Table.{table_widths, row_fields}
 
 -- The start and the periods among a row's fields.
@@ -43,6 +43,7 @@ pub record Fields (periods : List ℕ) : Type 0 where
   pub t7 : get_or periods 6 0 ≤ 3600
   pub t8 : get_or periods 7 0 ≤ 3600
 
--- Whether row k, of this start and loss, may follow one of that start and loss; the first follows none (The table).
-unfoldable pub follows : ℕ → PagesPerHour → ℕ → PagesPerHour → ℕ → Bool
-follows k startBefore lossBefore start loss = eqb k 0 || (ltb startBefore.0 start.0 && ltb loss lossBefore)
+-- Whether a row that stands so may follow the one before it: it starts above it and loses less; the first follows none (The table).
+unfoldable pub follows : Option Standing → Standing → Bool
+follows None row = true
+follows (Some before) row = ltb before.start.0 row.start.0 && ltb row.loss before.loss

@@ -15,8 +15,11 @@ ghost use Rattle.table_row.specs.Cut.{row_of, row_at, words_of, word_fields, wor
 use codec::RowWords;
 use model::{PagesPerHour, Seconds};
 
-// A start stands above the 32 bits that the first word has for periods.
-const START: u64 = 0x1_0000_0000;
+// The widths of what a row's first word holds: the start, two periods, and the upper eight bits of the third.
+const HIGH_WIDTHS: [u64; 4] = [32, 12, 12, 8];
+
+// The widths of what the second word holds: the lower four bits of the third period, and the other five.
+const LOW_WIDTHS: [u64; 6] = [4, 12, 12, 12, 12, 12];
 
 // A table row's start and its eight periods.
 #[derive(Clone, Copy)]
@@ -25,14 +28,52 @@ pub struct TableRow {
     pub periods: [Seconds; 8],
 }
 
+// The start and the eight periods in a row's two words.
+impl From<RowWords> for TableRow {
+    ghost from_gives = { λ words row. row ≡ row_of (word_fields words.high words.low) };
+
+    #[tactic(auto, using(crate::proofs::Cutting::upper_small, crate::proofs::Cutting::lower_small, crate::proofs::Cutting::row_cut))]
+    fn from(words: RowWords) -> TableRow {
+        let [start, t1, t2, t3_upper] = codec::unpack_widths(&HIGH_WIDTHS, words.high);
+        let [t3_lower, t4, t5, t6, t7, t8] = codec::unpack_widths(&LOW_WIDTHS, words.low);
+        TableRow {
+            start: PagesPerHour(start),
+            periods: [
+                Seconds(t1),
+                Seconds(t2),
+                Seconds(t3_upper * 16 + t3_lower),
+                Seconds(t4),
+                Seconds(t5),
+                Seconds(t6),
+                Seconds(t7),
+                Seconds(t8),
+            ],
+        }
+    }
+}
+
+impl TableRow {
+    // A row's start and its eight periods as two words.
+    #[tactic(auto, using(crate::proofs::Words::words_added))]
+    pub fn words(&self) -> RowWords
+        requires { Fields (map (λ t. t.0) self.now.periods) }
+        ensures { result ≡ words_of self.now.start.0 (map (λ t. t.0) self.now.periods) }
+    {
+        let [t1, t2, t3, t4, t5, t6, t7, t8] = self.periods;
+        RowWords {
+            high: codec::pack_widths(&HIGH_WIDTHS, [self.start.0, t1.0, t2.0, t3.0 / 16]),
+            low: codec::pack_widths(&LOW_WIDTHS, [t3.0 % 16, t4.0, t5.0, t6.0, t7.0, t8.0]),
+        }
+    }
+}
+
 // The k-th row of a table, counted from 0.
 #[tactic(auto, using(crate::proofs::Cutting::fields_of_words))]
 pub fn row_at(table: &[u8], k: usize) -> TableRow
     requires { k < rows_in table.now }
     ensures { result ≡ row_at table.now k }
 {
-    let words = codec::get_row(table, k);
-    cut_row(words.high, words.low)
+    codec::get_row(table, k).into()
 }
 
 // The start of the k-th row of a table, counted from 0.
@@ -41,94 +82,40 @@ pub fn start_at(table: &[u8], k: usize) -> PagesPerHour
     requires { k < rows_in table.now }
     ensures { result ≡ start_at table.now k }
 {
-    let words = codec::get_row(table, k);
-    start_of(words.high)
+    start_of(codec::get_row(table, k))
 }
 
 // Makes the k-th row of a table, counted from 0, the one that two words hold; where there is no such row, nothing changes.
 #[tactic(auto, using(crate::proofs::Words::row_of_cut))]
-pub fn put_row(table: &mut [u8], k: usize, high: u64, low: u64)
-    ensures { table.new ≡ with_row table.old k (table_row (pages_per_hour (word_start high)) (map seconds (word_periods high low))) }
+pub fn put_row(table: &mut [u8], k: usize, words: RowWords)
+    ensures { table.new ≡ with_row table.old k (table_row (pages_per_hour (word_start words.high)) (map seconds (word_periods words.high words.low))) }
 {
-    codec::put_row(table, k, high, low);
+    codec::put_row(table, k, words);
 }
 
-// A start and eight periods as two words: the third period has eight bits in the first word and four in the second.
-#[tactic(auto, using(crate::proofs::Words::words_added))]
-pub fn row_words(start: PagesPerHour, periods: &[u32; 8]) -> RowWords
-    requires { Fields periods.now }
-    ensures { result ≡ words_of start.0 periods.now }
+// The start in a row's two words: it fills the upper half of the first.
+pub fn start_of(words: RowWords) -> PagesPerHour
+    ensures { result.0 ≡ word_start words.high }
 {
-    RowWords {
-        high: (start.0 as u64) * START
-            + ((periods[0] as u64) * 0x10_0000
-                + ((periods[1] as u64) * 0x100 + (periods[2] as u64) / 0x10)),
-        low: (periods[2] as u64) % 0x10 * 0x1000_0000_0000_0000
-            + ((periods[3] as u64) * 0x1_0000_0000_0000
-                + ((periods[4] as u64) * 0x10_0000_0000
-                    + ((periods[5] as u64) * 0x100_0000
-                        + ((periods[6] as u64) * 0x1000 + (periods[7] as u64))))),
-    }
+    PagesPerHour((words.high >> 32) as u32)
 }
 
-// The start in a row's first word.
-pub fn start_of(high: u64) -> PagesPerHour
-    ensures { result.0 ≡ word_start high }
-{
-    PagesPerHour((high / START) as u32)
+// Where a row stands among a table's: what it starts at, and what its periods lose.
+#[derive(Clone, Copy)]
+pub struct Standing {
+    pub start: PagesPerHour,
+    pub loss: u64,
 }
 
-// The start and the eight periods in a row's two words.
-#[tactic(auto, using(crate::proofs::Cutting::cut_words))]
-pub fn cut_row(high: u64, low: u64) -> TableRow
-    ensures { result ≡ row_of (word_fields high low) }
-{
-    let start = high / START;
-    let from_1 = high % START;
-    let t1 = from_1 / 0x10_0000;
-    let from_2 = from_1 % 0x10_0000;
-    let t2 = from_2 / 0x100;
-    let t3 = from_2 % 0x100 * 0x10 + low / 0x1000_0000_0000_0000;
-    let from_4 = low % 0x1000_0000_0000_0000;
-    let t4 = from_4 / 0x1_0000_0000_0000;
-    let from_5 = from_4 % 0x1_0000_0000_0000;
-    let t5 = from_5 / 0x10_0000_0000;
-    let from_6 = from_5 % 0x10_0000_0000;
-    let t6 = from_6 / 0x100_0000;
-    let from_7 = from_6 % 0x100_0000;
-    let t7 = from_7 / 0x1000;
-    let t8 = from_7 % 0x1000;
-    TableRow {
-        start: PagesPerHour(start as u32),
-        periods: [
-            Seconds(t1 as u32),
-            Seconds(t2 as u32),
-            Seconds(t3 as u32),
-            Seconds(t4 as u32),
-            Seconds(t5 as u32),
-            Seconds(t6 as u32),
-            Seconds(t7 as u32),
-            Seconds(t8 as u32),
-        ],
+impl Standing {
+    // Whether a row may follow the one before it: the first follows none.
+    #[tactic(auto, unfolding(crate::specs::Cut::follows))]
+    pub fn may_follow(self, before: Option<Standing>) -> bool
+        ensures { result ≡ follows before self }
+    {
+        match before {
+            None => true,
+            Some(last) => last.start < self.start && self.loss < last.loss,
+        }
     }
-}
-
-// Whether a row may follow the one before it: the first follows none.
-#[tactic(auto, unfolding(crate::specs::Cut::follows))]
-pub fn may_follow(
-    k: usize,
-    start_before: PagesPerHour,
-    loss_before: u64,
-    start: PagesPerHour,
-    loss: u64,
-) -> bool
-    ensures { result ≡ follows k start_before loss_before start loss }
-{
-    if k == 0 {
-        return true;
-    }
-    if start.0 <= start_before.0 {
-        return false;
-    }
-    loss < loss_before
 }

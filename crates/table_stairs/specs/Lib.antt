@@ -1,2 +1,3 @@
 pub mod Stairs
-pub mod Rows
+pub mod Held
+pub mod Ordered

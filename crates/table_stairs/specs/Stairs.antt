@@ -3,6 +3,7 @@
 use mathlib.Core.List.{List, [], ◌∷◌, ◌++◌, Memᴰ}
 use Rattle.std.specs.Prelude.{Bool, false, not, cond, ◌&&◌, ◌||◌, ℕ, ◌≤◌, length, get_or, take, leb, ltb}
 use Rattle.model.specs.declared.Seconds.{Seconds}
+use Rattle.walk.specs.Laws.{no_loss}
 
 -- A plan that stands: its need, its loss, its periods.
 pub record Stair : Type 0 where
@@ -18,9 +19,13 @@ pub record Stairs : Type 0 where
   pub rows : List Stair
   pub bound : ℕ
 
+-- The greatest number of rows.
+abbrev pub most : ℕ
+most = 256
+
 -- More than any loss.
 abbrev pub no_bound : ℕ
-no_bound = 0xffff_ffff_ffff_ffff
+no_bound = no_loss
 
 abbrev pub no_stairs : Stairs
 no_stairs = record { rows = []; bound = no_bound }

@@ -1,151 +1,169 @@
-// A staircase of plans in rising loss and falling need, at most 256 of them: its rows searched, moved and stored.
+// A stair, which is a plan that answers some budgets, and rows of them in rising loss and falling need: searched, and moved for
+// one more.
 //
-// specs/Stairs.antt says what is kept, specs/Rows.antt how that stands in an array, and what `table_enter` promises of it. These
-// functions serve other crates of the planner, and their callers meet what is required. Nothing is assumed.
+// specs/Stairs.antt says what a staircase keeps and how a plan enters it, specs/Held.antt how a stair is held, specs/Ordered.antt
+// how the rows stand. These functions serve other crates of the planner, and their callers meet what is required. Nothing is
+// assumed.
 #![tactic(auto)]
 
-ghost use Rattle.std.specs.Prelude.{◌≡◌, ◌≤◌, ◌<◌, min, length};
-ghost use Rattle.table_stairs.specs.Stairs.{no_bound};
-ghost use Rattle.table_stairs.specs.Rows.{Periods, Rises, LosesLess, PlacesRise, PlacesLoseLess, Covers, NeedsLess, Moved, Stored};
+ghost use Rattle.std.specs.Prelude.{◌≡◌, ◌+◌, ◌-◌, ◌/◌, ◌≤◌, ◌<◌, length, take, drop};
+ghost use Rattle.model.specs.Model.{seconds, padded};
+ghost use Rattle.walk.specs.Laws.{WithinHour};
+ghost use Rattle.table_stairs.specs.Stairs.{stair, no_bound, covered, losing_less, needing_less};
+ghost use Rattle.table_stairs.specs.Held.{Written};
+ghost use Rattle.table_stairs.specs.Ordered.{Staircase, replaced, PartsLoseLess};
 
-use model::PagesPerHour;
+use codec::RowWords;
+use model::{PagesPerHour, Seconds};
+use std::marker::Model;
+use table_row::TableRow;
 
-// Where a row has its loss, behind its two words.
-const LOSS_PLACE: usize = 2;
+// A plan that stands: its need and its periods as a table row's two words, and its loss.
+#[derive(Clone, Copy)]
+pub struct Stair {
+    words: RowWords,
+    loss: u64,
+}
+
+impl Model for Stair {
+    ghost use Rattle.table_stairs.specs.Stairs.{Stair, stair};
+
+    ghost Value = { Stair };
+
+    ghost use Rattle.table_stairs.specs.Held.{need_held, periods_held, words_for, Holds};
+
+    ghost view = { λ a. stair (need_held a.words) a.loss (periods_held a.words) };
+
+    ghost invariant = { λ a. Holds a.words };
+
+    ghost inverse = { λ s. record { words = words_for s.its_need s.periods; loss = s.its_loss } };
+
+    ghost inverse_ok = { λ a h i. record { words = h.words_are i; loss = a.loss } };
+}
+
+impl Stair {
+    pub fn new(need: PagesPerHour, loss: u64, periods: &[Seconds]) -> Stair
+        requires few { length periods.now ≤ 8 }
+        requires within_hour { WithinHour periods.now }
+        ensures { result ≡ stair need.0 loss periods.now }
+    {
+        let row = TableRow {
+            start: need,
+            periods: padded(periods),
+        };
+        Stair {
+            words: row.words(),
+            loss,
+        }
+    }
+
+    pub fn need(&self) -> PagesPerHour
+        ensures { result.0 ≡ self.now.its_need }
+    {
+        table_row::start_of(self.words)
+    }
+
+    pub fn loss(&self) -> u64
+        ensures { result ≡ self.now.its_loss }
+    {
+        self.loss
+    }
+
+    // The two words of its table row.
+    pub fn words(&self) -> RowWords
+        ensures { Written self.now result }
+    {
+        self.words
+    }
+}
+
+// Eight periods: these, and zeros behind them.
+#[tactic(auto, using(crate::proofs::Held::padded_array))]
+fn padded(periods: &[Seconds]) -> [Seconds; 8]
+    requires { length periods.now ≤ 8 }
+    ensures { result ≡ padded (seconds 0) periods.now }
+{
+    let mut eight = [Seconds(0); 8];
+    eight[..periods.len()].copy_from_slice(periods);
+    eight
+}
 
 // Rows are counted in blocks of so many, and a block in parts of so many.
 const BLOCK: usize = 36;
 
 const PART: usize = 6;
 
-// Whether some row has at most this need and at most this loss: the last that loses no more needs least of those.
-pub fn covers(rows: &[u64; 768], count: usize, need: PagesPerHour, loss: u64) -> bool
-    requires count_bound { count ≤ 256 }
+// Whether some row has at most this need and at most this loss: the last that loses no more needs least of those. Rows are a slice
+// here, which can hold no fact of its own; `Stairs` of table_enter, which lends them, knows their order.
+pub fn covers(rows: &[Stair], need: PagesPerHour, loss: u64) -> bool
     requires loss_lt_no_bound { loss < no_bound }
-    requires rises { Rises count rows.now }
-    ensures { Covers rows.now count need.0 loss result }
+    requires in_order { Staircase rows.now }
+    ensures { result ≡ covered need.0 loss rows.now }
 {
-    let k = losing_less(rows, count, loss + 1);
-    if k == 0 {
-        return false;
-    }
-    let least = table_row::start_of(rows[3 * (k - 1)]);
-    if need.0 < least.0 {
-        return false;
-    }
-    true
+    let k = losing_less(rows, loss + 1);
+    k > 0 && rows[k - 1].need() <= need
 }
 
-// How many rows lose less than `loss`, where rows rise in loss: first of the last rows of whole blocks, then of the last rows of
-// whole parts of the block that is left, then within the part that is left. No branch depends on a loss, as each step of a search
-// by halves would, and be foretold wrongly half the time.
-pub fn losing_less(rows: &[u64; 768], count: usize, loss: u64) -> usize
-    requires count_bound { count ≤ 256 }
-    requires rises { Rises count rows.now }
-    ensures { LosesLess rows.now count loss result }
+// How many rows in front lose less than `loss`: first of the last rows of whole blocks, then of the last rows of whole parts of the
+// block that is left, then within the part that is left. No branch depends on a loss, as each step of a search by halves would, and
+// be foretold wrongly half the time.
+pub fn losing_less(rows: &[Stair], loss: u64) -> usize
+    requires in_order { Staircase rows.now }
+    ensures upto { result ≤ length rows.now }
+    ensures number { result ≡ length (losing_less loss rows.now) }
 {
-    let blocks = BLOCK * places_losing_less(rows, BLOCK - 1, BLOCK, count / BLOCK, loss);
-    let block = smaller(count - blocks, BLOCK);
-    let parts = PART * places_losing_less(rows, blocks + (PART - 1), PART, block / PART, loss);
-    let part = smaller(block - parts, PART);
-    blocks + parts + places_losing_less(rows, blocks + parts, 1, part, loss)
+    let blocks = BLOCK * parts_losing_less(rows, BLOCK, loss);
+    let block = one_part(&rows[blocks..], BLOCK);
+    let parts = PART * parts_losing_less(block, PART, loss);
+    let part = one_part(&block[parts..], PART);
+    blocks + (parts + parts_losing_less(part, 1, loss))
 }
 
-fn smaller(a: usize, b: usize) -> usize
-    ensures { result ≡ min a b }
+// As many rows of these as a part has, or all where they are fewer.
+fn one_part(rows: &[Stair], size: usize) -> &[Stair]
+    ensures { result.now ≡ take size rows.now }
 {
-    if a < b {
-        return a;
-    }
-    b
+    &rows[..rows.len().min(size)]
 }
 
-// How many of so many rows, the first at place `first` and each `step` places behind the one before, lose less than `loss`.
-fn places_losing_less(
-    rows: &[u64; 768],
-    first: usize,
-    step: usize,
-    times: usize,
-    loss: u64,
-) -> usize
-    requires { PlacesRise first step times rows.now }
-    ensures { PlacesLoseLess rows.now first step times loss result }
+// How many whole parts of so many rows have a last row that loses less than `loss`.
+fn parts_losing_less(rows: &[Stair], size: usize, loss: u64) -> usize
+    requires nonempty { 1 ≤ size }
+    requires in_order { Staircase rows.now }
+    ensures { PartsLoseLess rows.now size loss (length rows.now / size) result }
 {
     let mut less: usize = 0;
-    let mut x: usize = 0;
-    while x < times {
-        if rows[3 * (first + step * x) + LOSS_PLACE] < loss {
+    for x in 0..rows.len() / size {
+        if rows[size * x + (size - 1)].loss() < loss {
             less += 1;
         }
-        x += 1;
     }
     less
 }
 
 // The first row from place i on that needs less.
-pub fn needing_less(rows: &[u64; 768], i: usize, count: usize, need: PagesPerHour) -> usize
-    requires i_le_count { i ≤ count }
-    requires count_bound { count ≤ 256 }
-    ensures { NeedsLess rows.now i count need.0 result }
+pub fn needing_less(rows: &[Stair], i: usize, need: PagesPerHour) -> usize
+    requires { i ≤ length rows.now }
+    ensures from { i ≤ result }
+    ensures upto { result ≤ length rows.now }
+    ensures rest { drop result rows.now ≡ needing_less need.0 (drop i rows.now) }
 {
-    let mut j = i;
-    while j < count {
-        if table_row::start_of(rows[3 * j]).0 < need.0 {
-            return j;
-        }
-        j += 1;
-    }
-    j
-}
-
-// The rows from place i to place e move up by one place.
-pub fn open_gap(rows: &mut [u64; 768], i: usize, e: usize)
-    requires rows_len { length rows.old ≡ 768 }
-    requires i_le_e { i ≤ e }
-    requires e_bound { e < 256 }
-    ensures { Moved i i e rows.old rows.new }
-{
-    let first = 3 * i;
-    let mut p = 3 * e;
-    while first < p {
-        p -= 1;
-        let x = rows[p];
-        rows[p + 3] = x;
+    let behind = &rows[i..];
+    match behind.iter().position(|row| row.need() < need) {
+        Some(passed) => i + passed,
+        None => rows.len(),
     }
 }
 
-// The rows from place j to place e move down, to behind place i.
-pub fn close_gap(rows: &mut [u64; 768], i: usize, j: usize, e: usize)
-    requires rows_len { length rows.old ≡ 768 }
-    requires i_lt_j { i < j }
-    requires j_le_e { j ≤ e }
-    requires e_bound { e ≤ 256 }
-    ensures { Moved i j e rows.old rows.new }
+// One row takes the place of those from i to j, and those behind, up to `end`, stand next to it.
+pub fn replace(rows: &mut [Stair], i: usize, j: usize, end: usize, row: Stair)
+    requires i_le_j { i ≤ j }
+    requires j_le_end { j ≤ end }
+    requires end_bound { end ≤ length rows.old }
+    requires room { i + 1 + (end - j) ≤ length rows.old }
+    ensures size { length rows.new ≡ length rows.old }
+    ensures rows { take (i + 1 + (end - j)) rows.new ≡ replaced i j row (take end rows.old) }
 {
-    let to = 3 * (i + 1);
-    let from = 3 * j;
-    if to == from {
-        return;
-    }
-    let size = 3 * (e - j);
-    let mut x: usize = 0;
-    while x < size {
-        let y = rows[from + x];
-        rows[to + x] = y;
-        x += 1;
-    }
-}
-
-// A plan becomes the row at place i.
-pub fn store_row(need: PagesPerHour, loss: u64, periods: &[u32; 8], i: usize, rows: &mut [u64; 768])
-    requires periods { Periods periods.now }
-    requires i_bound { i < 256 }
-    requires rows_len { length rows.old ≡ 768 }
-    ensures { Stored i need.0 loss periods.now rows.old rows.new }
-{
-    let first = 3 * i;
-    let words = table_row::row_words(need, periods);
-    rows[first] = words.high;
-    rows[first + 1] = words.low;
-    rows[first + LOSS_PLACE] = loss;
+    rows.copy_within(j..end, i + 1);
+    rows[i] = row;
 }

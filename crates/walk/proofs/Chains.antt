@@ -1,4 +1,5 @@
--- The multiples of a period in an interval are the periods allowed there; so the chains are the permitted lists, and rising multiples make them sorted.
+-- The multiples of a period in an interval are the periods allowed there; so the chains are the permitted lists, and
+-- rising multiples make them sorted.
 -- Assumes nothing.
 use mathlib.Core.Path.{◌≡◌, refl, sym, ap, subst}
 use mathlib.Core.List.Memᴰ

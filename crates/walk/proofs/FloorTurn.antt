@@ -1,69 +1,79 @@
--- One turn of the loop that sums a loss floor from the last job back: the job at the place before comes in front.
+-- One turn of the loop that sums a loss floor: the job at hand adds what it loses.
 -- Assumes nothing.
-use mathlib.Core.Path.{◌≡◌, sym, ◌∙◌, ap, ap₂, subst}
-use mathlib.Core.List.{List}
-use Prim.Native.Nat.{ℕ, ◌+◌, ◌*◌, ◌-◌, ◌≤◌, ◌<◌, max}
+use mathlib.Core.Path.{◌≡◌, sym, ◌∙◌, ap, subst}
+use mathlib.Core.List.{List, [], ◌∷◌}
+use Prim.Native.Nat.{ℕ, ◌+◌, ◌*◌, ◌≤◌, ◌<◌, max}
 use native.Mathlib.Omega.{arith}
-use lib.ListN.{get_or}
+use native.Mathlib.Numerals.{add-one}
+use lib.ListN.{length, get_or, drop}
+use lib.Seq.{drop-cons}
 use Rattle.model.specs.declared.Seconds.{Seconds}
 use Rattle.model.specs.declared.Job.{Job}
 use Rattle.model.specs.Most.{most_loss}
 use Rattle.model.proofs.Bounds.{job_loss_bound}
-use Rattle.model.specs.Model.{seconds, job_loss}
+use Rattle.model.specs.Model.{seconds, no_job, job_loss}
+use Rattle.walk.specs.declared.JobNumbers.{JobNumbers}
+use Rattle.walk.specs.declared.Numbers.{Numbers}
 use Rattle.walk.specs.Walk.{loss_floor}
-use Rattle.walk.specs.Arrays.{HoldsJob, Held}
+use Rattle.walk.specs.Numbers.{numbers_at, HoldsJob, Held}
 use Rattle.walk.specs.Steps.{loss_held, LossHeldFits, Later}
-use Rattle.walk.proofs.Held.{held_open, held_none, held_at, job_loss_fits, job_loss_is}
+use Rattle.walk.proofs.Held.{held_from, job_loss_fits, job_loss_is}
+use Rattle.std.proofs.lemmas.List.{drop_all}
 
--- The sum is the floor of the jobs from place k on.
-pub record FloorFrom (spans pages rates stiffnesses : List ℕ) (i n : ℕ) (t : Seconds) (floor k : ℕ) : Type 0 where
-  pub from : i ≤ k
-  pub to : k ≤ n
-  pub small : floor ≤ most_loss * (n - k)
-  pub is : (greatest : ℕ) (js : List Job) → Held spans pages rates stiffnesses k n greatest js → floor ≡ loss_floor js t.0
+-- The sum is the floor of k jobs from place i on: with that of the jobs after them it is the floor of all.
+pub record FloorTo (m : Numbers) (i : ℕ) (t : Seconds) (floor k : ℕ) : Type 0 where
+  pub small : floor ≤ most_loss * k
+  pub is : (greatest : ℕ) (js : List Job) → Held m i greatest js → floor + loss_floor (drop k js) t.0 ≡ loss_floor js t.0
 
-module _ {spans pages rates stiffnesses : List ℕ} {i n : ℕ} {t : Seconds} (l : Later spans pages rates stiffnesses i n t) where
-  pub none_summed : FloorFrom spans pages rates stiffnesses i n t 0 n
+-- The job at the place that comes next.
+record Coming (m : Numbers) (i k : ℕ) (js : List Job) : Type 0 where
+  greatest : ℕ
+  job : Job
+  is : drop k js ≡ job ∷ drop (k + 1) js
+  holds : HoldsJob m (i + k) greatest job (drop (k + 1) js)
+
+module _ {m : Numbers} {i : ℕ} where
+  coming : {greatest : ℕ} (k : ℕ) (js : List Job) → i + k < m.n → Held m i greatest js → Coming m i k js
+  coming k js less h =
+      let few : k < length js = omega (arith, h.count) in
+      let later = held_from k js (omega arith) h in
+      let opens : drop k js ≡ get_or js k no_job ∷ drop (k + 1) js = drop-cons js k no_job few ∙ ap (λ (x : ℕ). get_or js k no_job ∷ drop x js) (sym (add-one k)) in
+      record { greatest = later.0; job = get_or js k no_job; is = opens; holds = (subst (Held m (i + k) later.0) opens later.1).jobs.0 }
+
+  -- past the last job
+  pub all_summed : {t : Seconds} {floor k : ℕ} → FloorTo m i t floor k → m.n ≤ i + k → {greatest : ℕ} (js : List Job) → Held m i greatest js → floor ≡ loss_floor js t.0
   unfolding loss_floor
-  none_summed =
-      let c = l.held.count in
-      record { from = omega arith; to = omega arith; small = omega arith; is = λ g js h. ap (λ (ks : List Job). loss_floor ks t.0) (sym (held_none js h)) }
+  all_summed {t} {floor} {k} f past {greatest = g} js h =
+      let none : drop k js ≡ [] = drop_all k js (omega (arith, h.count)) in
+      let whole = f.is g js h in
+      omega (arith, ap (λ (ks : List Job). loss_floor ks t.0) none)
 
-  module _ {floor k : ℕ} (f : FloorFrom spans pages rates stiffnesses i n t floor k) (less : i < k) (u : Seconds) (longer : u.0 ≡ max (get_or spans (k - 1) 0) t.0) where
-    at_least : {greatest : ℕ} (j : Job) {js : List Job} → HoldsJob spans pages rates stiffnesses (k - 1) greatest j js → j.lo.0 ≤ u.0
-    at_least j h = let s = h.shortest in omega arith
+  module _ {t : Seconds} (l : Later m i t) {floor k : ℕ} (f : FloorTo m i t floor k) (less : i + k < m.n) {x : JobNumbers} (here : x ≡ numbers_at m (i + k)) {u : Seconds} (longer : u.0 ≡ max x.lo.0 t.0) where
+    is_longer : {greatest : ℕ} {j : Job} {js : List Job} → HoldsJob m (i + k) greatest j js → u.0 ≡ max j.lo.0 t.0
+    is_longer h = longer ∙ ap (λ (y : JobNumbers). max y.lo.0 t.0) here ∙ ap (λ (y : ℕ). max y t.0) h.shortest
 
-    pub floor_fits : LossHeldFits pages rates stiffnesses (k - 1) u
-    floor_fits =
-        let to = f.to in
-        let a = held_at (k - 1) l.js (omega arith) (omega arith) l.held in
-        job_loss_fits a.holds u (at_least a.job a.holds)
+    loses : {greatest : ℕ} {j : Job} {js : List Job} → HoldsJob m (i + k) greatest j js → loss_held x u ≡ job_loss j u
+    loses h = rw here (job_loss_is h u (omega (arith, is_longer h)))
 
-    module _ (x : ℕ) (lost : x ≡ loss_held pages rates stiffnesses (k - 1) u) where
-      one_small : x ≤ most_loss
-      one_small =
-          let to = f.to in
-          let a = held_at (k - 1) l.js (omega arith) (omega arith) l.held in
-          let b = job_loss_bound a.job u a.holds.valid in
-          let e = job_loss_is a.holds u (at_least a.job a.holds) in
-          omega arith
+    pub floor_fits : LossHeldFits x u
+    floor_fits = let c = coming k l.js less l.held in rw here (job_loss_fits c.holds u (omega (arith, is_longer c.holds)))
 
-      pub sum_fits : x + floor ≤ most_loss * (n - (k - 1))
-      sum_fits = let s = f.small in let to = f.to in let o = one_small in omega arith
+    small : floor + loss_held x u ≤ most_loss * (k + 1)
+    small =
+        let c = coming k l.js less l.held in
+        omega (arith, f.small, loses c.holds, job_loss_bound c.job u c.holds.valid)
 
-      pub one_summed : FloorFrom spans pages rates stiffnesses i n t (x + floor) (k - 1)
-      unfolding loss_floor
-      one_summed = let to = f.to in record { from = omega arith; to = omega arith; small = sum_fits; is = opened }
-        where
-          again : k - 1 + 1 ≡ k
-          again = omega arith
+    pub sum_fits : floor + loss_held x u ≤ most_loss * 8
+    sum_fits = omega (arith, small, l.held.most)
 
-          opened : (greatest : ℕ) (js : List Job) → Held spans pages rates stiffnesses (k - 1) n greatest js → x + floor ≡ loss_floor js t.0
-          opened g js h =
-              let to = f.to in
-              let o = held_open js (omega arith) h in
-              let later = max g o.job.metadata in
-              let is-max : u ≡ seconds (max o.job.lo.0 t.0) = ap seconds (longer ∙ ap (λ (y : ℕ). max y t.0) o.holds.shortest) in
-              let here : x ≡ job_loss o.job (seconds (max o.job.lo.0 t.0)) = lost ∙ job_loss_is o.holds u (at_least o.job o.holds) ∙ ap (job_loss o.job) is-max in
-              let rest : floor ≡ loss_floor o.rest t.0 = f.is later o.rest (subst (λ (y : ℕ). Held spans pages rates stiffnesses y n later o.rest) again o.later) in
-              ap₂ (λ (a b : ℕ). a + b) here rest ∙ sym (ap (λ (ks : List Job). loss_floor ks t.0) o.is)
+    pub one_summed : FloorTo m i t (floor + loss_held x u) (k + 1)
+    unfolding loss_floor
+    one_summed = record { small = small; is = more }
+      where
+        more : (greatest : ℕ) (js : List Job) → Held m i greatest js → floor + loss_held x u + loss_floor (drop (k + 1) js) t.0 ≡ loss_floor js t.0
+        more g js h =
+            let c = coming k js less h in
+            let own : loss_held x u ≡ job_loss c.job (seconds (max c.job.lo.0 t.0)) = loses c.holds ∙ ap (λ (y : ℕ). job_loss c.job (seconds y)) (is_longer c.holds) in
+            let opened : loss_floor (drop k js) t.0 ≡ job_loss c.job (seconds (max c.job.lo.0 t.0)) + loss_floor (drop (k + 1) js) t.0 = ap (λ (ks : List Job). loss_floor ks t.0) c.is in
+            let whole = f.is g js h in
+            omega arith

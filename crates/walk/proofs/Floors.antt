@@ -1,4 +1,5 @@
--- Longer periods lose no less, and a job at a period needs no less than at its longest: so the floors hold for every way to complete a plan.
+-- Longer periods lose no less, and a job at a period needs no less than at its longest: so the floors hold for every
+-- way to complete a plan.
 -- Assumes nothing.
 use mathlib.Core.Path.{◌≡◌, ap}
 use mathlib.Core.Logic.{⊎_elim}

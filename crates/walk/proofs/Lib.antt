@@ -9,5 +9,5 @@ pub mod Bounds
 pub mod Held
 pub mod FloorTurn
 pub mod Cuts
-pub mod Filled
 pub mod Climbing
+pub mod Filled

@@ -1,4 +1,5 @@
--- The loop over a job's periods: it opens at the first, takes one and goes on, may be left at a loss floor, and ends past the interval.
+-- The loop over a job's periods: it opens at the first, takes one and goes on, may be left at a loss floor, and ends
+-- past the interval.
 -- Assumes nothing.
 use mathlib.Core.Path.{◌≡◌, refl, ap}
 use mathlib.Core.List.{List, ◌∷◌}

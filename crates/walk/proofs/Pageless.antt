@@ -1,5 +1,6 @@
--- A job without pages adds nothing to need and loss: what completes its period t completes a shorter one that divides t, at the same need and loss.
--- So where an update keeps what it has against the completions of the shorter one, the longer one can be passed over.
+-- A job without pages adds nothing to need and loss: what completes its period t completes a shorter one that divides
+-- t, at the same need and loss. So where an update keeps what it has against the completions of the shorter one, the
+-- longer one can be passed over.
 -- Assumes nothing.
 use mathlib.Core.Path.{◌≡◌, sym, ◌∙◌, ap, ap₂, subst}
 use mathlib.Core.Logic.{⊎_elim}
@@ -8,7 +9,7 @@ use mathlib.Core.List.{List, [], ◌∷◌, ◌++◌, Memᴰ}
 use Prim.Native.Nat.{ℕ, suc, ◌+◌, ◌*◌, ◌-◌, ◌/◌, ◌%◌, ◌^◌, ◌≤◌, ◌<◌, max}
 use native.Mathlib.Omega.{arith}
 use native.Mathlib.Nat.{le_refl, mul-mod_left, mul-mod_right, mod-one, mul_assoc, zero-div}
-use native.Mathlib.Nat.{mul-le-mul_left, mul-le-mul_right, mul-lt-mul_of_pos_right, lt_of_mul-lt-mul_right}
+use native.Mathlib.Nat.{le-div_iff_mul-le, mul-le-mul_left, mul-le-mul_right, mul-lt-mul_of_pos_right, lt_of_mul-lt-mul_right}
 use native.Mathlib.Decide.{ℕ_discrete}
 use Rattle.model.specs.declared.Seconds.{Seconds}
 use Rattle.model.specs.declared.Job.{Job}
@@ -20,7 +21,7 @@ use Rattle.walk.specs.Chains.{chains_by}
 use Rattle.walk.specs.Walk.{visit, Node, next, walk_by}
 use Rattle.walk.specs.Steps.{PassedOver}
 use Rattle.model.proofs.Rounding.{round_up_le, round_up_above, round_up_scaled, multiple_is, factors}
-use Rattle.walk.specs.Laws.{ListsAllowed, Pageless, Unmoved, Settled}
+use Rattle.walk.specs.Laws.{ListsAllowed, Pageless, Unmoved, Settled, Absorbs}
 use Rattle.walk.proofs.Chains.{chains_all}
 use Rattle.step.proofs.Fits.{need_at_is}
 use Rattle.step.proofs.Pages.{multiple_trans, quotient_trans}
@@ -30,8 +31,12 @@ use Rattle.walk.proofs.Walk.{at_plan, walk_visits, walk_kept}
 pub one_passes : {a : ℕ} → 1 < a → PassedOver a 1
 one_passes {a} h = (1, le_refl 1, h, mod-one a)
 
-pub factor_passes : (a p first : ℕ) → 1 ≤ first → 2 ≤ p → first ≤ a / p → a % p ≡ 0 → PassedOver a first
-factor_passes a p first some two reached multiple =
+pub factor_passes : (a p first : ℕ) → 1 ≤ first → 2 ≤ p → p ≤ a / first → a % p ≡ 0 → PassedOver a first
+factor_passes a p first some two within multiple =
+    let product : p * first ≤ a = (le-div_iff_mul-le some).0 within in
+    let pos : 1 ≤ p = omega arith in
+    let turned : first * p ≤ a = omega arith in
+    let reached : first ≤ a / p = (le-div_iff_mul-le pos).1 turned in
     let is : a ≡ a / p * p = multiple_is a p multiple in
     let more : a / p * 2 ≤ a / p * p = mul-le-mul_left (a / p) two in
     (a / p, reached, omega arith, ap (λ (x : ℕ). x % (a / p)) is ∙ mul-mod_right (a / p) p)
@@ -70,14 +75,8 @@ pageless_loss j t u none = ap (λ (x : ℕ). j.stiffness * (3600 * cost j / j.lo
     idle : (x : ℕ) → 3600 * cost j / x ≡ 0
     idle x = ap (λ (c : ℕ). 3600 * c / x) none ∙ zero-div x
 
--- An update that a plan's visit settles, whatever else is visited later: plans of the same need and loss change nothing more.
--- It may ask that what is had be good, and keeps it so.
-pub record Absorbs {A : Type 0} (Good : A → Type 0) (f : ℕ → ℕ → List Seconds → A → A) : Type 0 where
-  pub good : (q l : ℕ) (ts : List Seconds) (s : A) → Good s → Good (f q l ts s)
-  pub after : (q l : ℕ) (ts : List Seconds) (s : A) → Good s → Unmoved f (f q l ts s) q l
-  pub stays : (q l q' l' : ℕ) (ts : List Seconds) (s : A) → Good s → Unmoved f s q l → Unmoved f (f q' l' ts s) q l
-
--- u and t are multiples of the period before, and t of u: a job without pages at u takes every completion that it has at t
+-- u and t are multiples of the period before, and t of u: a job without pages at u takes every completion that it has
+-- at t
 module _ {order : Seconds → Job → List Seconds} (law : ListsAllowed order) {A : Type 0} (f : ℕ → ℕ → List Seconds → A → A) (s : A) (j : Job) (js : List Job) (n : Node) (u t : Seconds) where
   pub passed_over : ValidJobs js → Pageless n.greatest j → 1 ≤ n.before.0 → 1 ≤ u.0 → 1 ≤ t.0 → u.0 % n.before.0 ≡ 0 → t.0 % u.0 ≡ 0 → Settled f js (next j n u) s → walk_by order f js (next j n t) s ≡ s
   unfolding at_plan

@@ -1,4 +1,5 @@
--- The walk goes through the chains one after the other; where the update keeps what it has against every completion of a node, so does the walk.
+-- The walk goes through the chains one after the other; where the update keeps what it has against every completion of
+-- a node, so does the walk.
 -- Assumes nothing.
 use mathlib.Core.Path.{◌≡◌, refl, sym, ◌∙◌, ap, ap₂}
 use mathlib.Core.List.{List, [], ◌∷◌, ◌++◌, map, flat_map, append-nil, Memᴰ}
@@ -58,7 +59,8 @@ module _ {A : Type 0} (order : Seconds → Job → List Seconds) (f : ℕ → �
   plan_next : (j : Job) (js : List Job) (n : Node) (t : Seconds) (ts : List Seconds) (a : A) → at_plan f js (next j n t) ts a ≡ at_plan f (j ∷ js) n (t ∷ ts) a
   unfolding at_plan need_after pages_after last_of loss
   plan_next j js n t ts a =
-      ap₂ (λ (l : ℕ) (us : List Seconds). f (need_after (max n.greatest j.metadata) (carried n.pages n.before t (load n.greatest j)) t js ts) l us a) (add_assoc n.lost (job_loss j t) (loss js ts)) (append_snoc n.periods t ts)
+      let q = need_after (max n.greatest j.metadata) (carried n.pages n.before t (load n.greatest j)) t js ts in
+      ap₂ (λ (l : ℕ) (us : List Seconds). f q l us a) (add_assoc n.lost (job_loss j t) (loss js ts)) (append_snoc n.periods t ts)
 
   -- the walk from a node on is the visit of the chains from there on
   pub walk_visits : (js : List Job) (n : Node) (acc : A) → walk_by order f js n acc ≡ visit (at_plan f js n) acc (chains_by order n.before js)

@@ -1,5 +1,5 @@
--- The periods that a job may try after the one before, and all permitted lists in the order of the walk: job by job, those periods in
--- rising order. No public contract cites this. Assumes nothing.
+-- The periods that a job may try after the one before, and all permitted lists in the order of the walk: job by job,
+-- those periods in rising order. No public contract cites this. Assumes nothing.
 use mathlib.Core.List.{List, [], ◌∷◌, map, flat_map}
 use Rattle.std.specs.Prelude.{◌*◌, ◌/◌}
 use Rattle.model.specs.declared.Seconds.{Seconds}

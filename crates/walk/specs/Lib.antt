@@ -1,5 +1,5 @@
 pub mod Chains
 pub mod Walk
-pub mod Arrays
+pub mod Numbers
 pub mod Steps
 pub mod Laws

@@ -1,4 +1,5 @@
--- The walk over all permitted lists, without its cuts, and the floors that allow the cuts. No public contract cites this.
+-- The walk over all permitted lists, without its cuts, and the floors that allow the cuts. No public contract cites
+-- this.
 -- Assumes nothing.
 use Rattle.std.specs.Prelude.{List, [], ◌∷◌, ◌++◌, ℕ, ◌+◌, ◌*◌, ◌/◌, max}
 use Rattle.model.specs.declared.Seconds.{Seconds}
@@ -17,7 +18,8 @@ unfoldable pub least_needs : ℕ → List Job → ℕ
 least_needs greatest [] = 0
 least_needs greatest (j ∷ js) = 3600 * load greatest j / j.hi.0 + least_needs (max greatest j.metadata) js
 
--- What a plan needs at least, whose jobs before these write `pages` in `before` seconds; `greatest` is the greatest of their metadata.
+-- What a plan needs at least, whose jobs before these write `pages` in `before` seconds; `greatest` is the greatest of
+-- their metadata.
 unfoldable pub need_floor : ℕ → ℕ → Seconds → List Job → ℕ
 need_floor greatest pages before js = need_at pages before + least_needs greatest js
 
@@ -26,7 +28,8 @@ unfoldable pub visit : {A B : Type 0} → (B → A → A) → A → List B → A
 visit f acc [] = acc
 visit f acc (x ∷ xs) = visit f (f x acc) xs
 
--- A part of a plan: the last period, the greatest metadata so far, the pages in the last period, the loss so far, the periods so far.
+-- A part of a plan: the last period, the greatest metadata so far, the pages in the last period, the loss so far, the
+-- periods so far.
 pub record Node : Type 0 where
   pub before : Seconds
   pub greatest : ℕ

@@ -1,2 +1,3 @@
-pub mod Copied
-pub mod Walk
+pub mod OfProfile
+pub mod RowNumbers
+pub mod Steps

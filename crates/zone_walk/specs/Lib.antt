@@ -1,2 +1,5 @@
 pub mod Zone
+pub mod RowNumbers
 pub mod Listing
+pub mod Places
+pub mod Walk

@@ -16,7 +16,7 @@ use Rattle.model.specs.Climb.{in_turn, climb, climb_to}
 use Rattle.model.specs.Valid.{ValidJobs}
 use Rattle.model.proofs.Rounding.{round_up_some}
 use Rattle.zone_walk.specs.Zone.{Zone}
-use Rattle.zone_walk.specs.Listing.{span_of, least_for, greatest_for, unless_empty, zones_below, zones_in, zones_for}
+use Rattle.zone_walk.specs.Listing.{interval_of, least_for, greatest_for, unless_empty, zones_below, zones_in, zones_for}
 
 -- the terms from the j + 1-th on: each is at most C times a square, and the k-th root times k is at most M
 halves : (j C M q x rest : ℕ) → suc j * q ≤ M → x ≤ C * (q * q) → suc j * rest ≤ C * (M * M) → j * (x + rest) ≤ C * (M * M)
@@ -76,23 +76,23 @@ open_few true zs b h = omega arith
 open_few false zs b h = h refl
 
 below_few : (js : List Job) (chosen : List ℕ) (least greatest a : ℕ) → ValidJobs js → 1 ≤ least → least ≤ greatest → 1 ≤ a → a ≤ 3600
-    → length (zones_below (map span_of js) chosen least greatest a) ≤ 2 ^ length js * (3600 / a * (3600 / a))
+    → length (zones_below (map interval_of js) chosen least greatest a) ≤ 2 ^ length js * (3600 / a * (3600 / a))
 unfolding zones_below climb_to
 below_few [] chosen least greatest a v l g pos top =
     let some : 1 ≤ 3600 / a = (le-div_iff_mul-le pos).1 (omega arith) in
     let square : 1 * 1 ≤ 3600 / a * (3600 / a) = mul-le-mul some some in
     omega arith
 below_few (j ∷ js) chosen least greatest a v l g pos top =
-    let s = span_of j in
+    let s = interval_of j in
     let q = round_up j.lo.0 (a * greatest) in
     let some : 1 ≤ q = round_up_some v.0.lo_from (mul-pos {n = greatest} pos (omega arith)) in
     rw (pow-succ' 2 (length js), mul_assoc 2 (2 ^ length js) (3600 / a * (3600 / a)))
-    (all_few (λ m. unless_empty (ltb (greatest_for s greatest m) (least_for s least m)) (zones_below (map span_of js) (chosen ++ (m ∷ [])) (least_for s least m) (greatest_for s greatest m) m)) (2 ^ length js)
+    (all_few (λ m. unless_empty (ltb (greatest_for s greatest m) (least_for s least m)) (zones_below (map interval_of js) (chosen ++ (m ∷ [])) (least_for s least m) (greatest_for s greatest m) m)) (2 ^ length js)
     (λ m. open_few (ltb (greatest_for s greatest m) (least_for s least m)) _ _ (λ e.
     let k : least_for s least m ≤ greatest_for s greatest m = ltb-false _ _ e in
     let w = within j.hi.0 m v.0.hi_to (omega arith) in
     below_few js (chosen ++ (m ∷ [])) (least_for s least m) (greatest_for s greatest m) m v.1 (omega arith) k w.0 w.1))
-    a pos q ((s.longest / least + a - q * a) / a) some)
+    a pos q ((s.hi.0 / least + a - q * a) / a) some)
 
 -- Eight valid jobs have fewer than 2^31 zones.
 pub zones_few : (js : List Job) → length js ≤ 8 → ValidJobs js → length (zones_for js) < 2 ^ 31

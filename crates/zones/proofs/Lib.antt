@@ -1,5 +1,4 @@
 pub mod Bound
-pub mod Coming
 pub mod Listing
 pub mod Multipliers
 pub mod OneOutcome

@@ -20,10 +20,11 @@ use Rattle.model.specs.Valid.{ValidJobs}
 use Rattle.model.proofs.Climb.{RisingNumbers, climb_rising, climb_in, climb_has}
 use Rattle.model.proofs.Rounding.{round_up_le, round_up_some}
 use Rattle.model.proofs.Lists.{in_flat, flat_has, rising_append}
+use Rattle.zone_range.specs.declared.Interval.{Interval}
 use Rattle.zone_walk.specs.Zone.{Zone}
 use Rattle.zones.specs.Zones.{periods_for, IsZone, Before, ZonesOf}
 use Rattle.zones.specs.Multipliers.{MultiplesAfter, InIntervals, ByMultipliers}
-use Rattle.zone_walk.specs.Listing.{Span, span_of, first_multiplier, least_for, greatest_for, unless_empty, zones_below, zones_in, zones_for}
+use Rattle.zone_walk.specs.Listing.{interval_of, first_multiplier, least_for, greatest_for, unless_empty, zones_below, zones_in, zones_for}
 use Rattle.zones.specs.Lies.{InRange, ZonesRise}
 use Rattle.zones.proofs.Multipliers.{as_many, zone_by_multipliers}
 use Rattle.zones.proofs.Ranges.{narrowed, narrows, in_nonempty, in_open}
@@ -38,7 +39,7 @@ pub record Below (js : List Job) (chosen : List ℕ) (least greatest a : ℕ) (z
   pub some : z.least.0 ≤ z.greatest.0
 
 -- the zones for one multiplier of the next job
-abbrev under : List Span → Span → List ℕ → ℕ → ℕ → ℕ → List Zone
+abbrev under : List Interval → Interval → List ℕ → ℕ → ℕ → ℕ → List Zone
 under ss s chosen least greatest m =
     let l = least_for s least m in
     let g = greatest_for s greatest m in
@@ -56,7 +57,7 @@ here chosen least greatest a h = record {
 
 -- a zone of the jobs after this one is a zone of this one too
 onward : (j : Job) (js : List Job) (chosen : List ℕ) (least greatest a m : ℕ) (z : Zone) → 1 ≤ m → m % a ≡ 0
-    → Below js (chosen ++ (m ∷ [])) (least_for (span_of j) least m) (greatest_for (span_of j) greatest m) m z → Below (j ∷ js) chosen least greatest a z
+    → Below js (chosen ++ (m ∷ [])) (least_for (interval_of j) least m) (greatest_for (interval_of j) greatest m) m z → Below (j ∷ js) chosen least greatest a z
 onward j js chosen least greatest a m z pos e b = record {
   more = m ∷ b.more;
   multipliers = b.multipliers ∙ append_snoc chosen m b.more;
@@ -68,24 +69,24 @@ onward j js chosen least greatest a m z pos e b = record {
     into : (t : ℕ) → InRange z t → (least ≤ t) × (t ≤ greatest) × InIntervals (j ∷ js) (m ∷ b.more) t
     into t r =
         let k = (b.range t).0 r in
-        let n = narrowed (span_of j) least greatest m t pos k.0 k.1 in
+        let n = narrowed (interval_of j) least greatest m t pos k.0 k.1 in
         (n.from, n.to, (n.above, n.below, k.2))
 
     from : (t : ℕ) → (least ≤ t) × (t ≤ greatest) × InIntervals (j ∷ js) (m ∷ b.more) t → InRange z t
     from t r =
-        let n = narrows (span_of j) least greatest m t pos (record { from = r.0; to = r.1; above = r.2.0; below = r.2.1 }) in
+        let n = narrows (interval_of j) least greatest m t pos (record { from = r.0; to = r.1; above = r.2.0; below = r.2.1 }) in
         (b.range t).1 (n.0, n.1, r.2.2)
 
 pub below_only : (js : List Job) (chosen : List ℕ) (least greatest a : ℕ) {z : Zone} → ValidJobs js → 1 ≤ least → least ≤ greatest → 1 ≤ a
-    → Memᴰ z (zones_below (map span_of js) chosen least greatest a) → Below js chosen least greatest a z
+    → Memᴰ z (zones_below (map interval_of js) chosen least greatest a) → Below js chosen least greatest a z
 unfolding zones_below
 below_only [] chosen least greatest a v l g pos i = subst (Below [] chosen least greatest a) (sym (mathlib.Core.List.Memᴰ.eq_of_singleton i)) (here chosen least greatest a g)
 below_only (j ∷ js) chosen least greatest a {z} v l g pos i =
-    let s = span_of j in
-    let r = in_flat (under (map span_of js) s chosen least greatest) (climb_to a (s.longest / least) (first_multiplier s greatest a)) i in
+    let s = interval_of j in
+    let r = in_flat (under (map interval_of js) s chosen least greatest) (climb_to a (s.hi.0 / least) (first_multiplier s greatest a)) i in
     let m = r.0 in
     let q = round_up j.lo.0 (a * greatest) in
-    let u = climb_in a pos (s.longest / least) q r.1 in
+    let u = climb_in a pos (s.hi.0 / least) q r.1 in
     let k = in_nonempty (ltb (greatest_for s greatest m) (least_for s least m)) r.2 in
     let some : 1 ≤ q = round_up_some v.0.lo_from (mul-pos pos (omega arith)) in
     let pos-m : 1 ≤ m = le_trans (mul-pos some pos) u.from in
@@ -95,52 +96,52 @@ below_only (j ∷ js) chosen least greatest a {z} v l g pos i =
     onward j js chosen least greatest a m z pos-m step (below_only js (chosen ++ (m ∷ [])) l' g' m v.1 (omega arith) (ltb-false _ _ k.0) pos-m k.1)
 
 -- a multiplier that some first period of the range allows is among those tried
-multiplier_listed : (s : Span) (least greatest a m t : ℕ) → 1 ≤ least → 1 ≤ a → m % a ≡ 0
-    → least ≤ t → t ≤ greatest → s.shortest ≤ m * t → m * t ≤ s.longest
-    → Memᴰ m (climb_to a (s.longest / least) (first_multiplier s greatest a))
+multiplier_listed : (s : Interval) (least greatest a m t : ℕ) → 1 ≤ least → 1 ≤ a → m % a ≡ 0
+    → least ≤ t → t ≤ greatest → s.lo.0 ≤ m * t → m * t ≤ s.hi.0
+    → Memᴰ m (climb_to a (s.hi.0 / least) (first_multiplier s greatest a))
 multiplier_listed s least greatest a m t l pos e from to above below =
-    let q = round_up s.shortest (a * greatest) in
+    let q = round_up s.lo.0 (a * greatest) in
     let k = m / a in
     let is : m ≡ k * a = (let d = div-add-mod' m a in omega arith) in
     let up : m * t ≤ m * greatest = mul-le-mul_left m to in
     let down : m * least ≤ m * t = mul-le-mul_left m from in
     let group : m * greatest ≡ k * (a * greatest) = ap (λ (x : ℕ). x * greatest) is ∙ mul_assoc k a greatest in
-    let first : q ≤ k = (round_up_le s.shortest k (mul-pos {n = greatest} pos (omega arith))).1 (omega arith) in
-    let last : m ≤ s.longest / least = (le-div_iff_mul-le l).1 (omega arith) in
+    let first : q ≤ k = (round_up_le s.lo.0 k (mul-pos {n = greatest} pos (omega arith))).1 (omega arith) in
+    let last : m ≤ s.hi.0 / least = (le-div_iff_mul-le l).1 (omega arith) in
     let from_first : q * a ≤ k * a = mul-le-mul_right a first in
-    climb_has a pos (s.longest / least) q (record { times = k; is = is; from = omega arith; to = last })
+    climb_has a pos (s.hi.0 / least) q (record { times = k; is = is; from = omega arith; to = last })
 
 -- every list of multipliers that some first period of the range allows is there
 pub below_all : (js : List Job) (chosen more : List ℕ) (least greatest a t : ℕ) → ValidJobs js → 1 ≤ least → 1 ≤ a → MultiplesAfter a more
     → least ≤ t → t ≤ greatest → InIntervals js more t
-    → (z : Zone) × Memᴰ z (zones_below (map span_of js) chosen least greatest a) × (z.multipliers ≡ chosen ++ more)
+    → (z : Zone) × Memᴰ z (zones_below (map interval_of js) chosen least greatest a) × (z.multipliers ≡ chosen ++ more)
 unfolding zones_below
 below_all [] chosen [] least greatest a t v l pos c from to h = (_, mathlib.Core.List.Memᴰ.head refl, sym (append-nil chosen))
 below_all [] chosen (m ∷ more) least greatest a t v l pos c from to h = absurd h
 below_all (j ∷ js) chosen [] least greatest a t v l pos c from to h = absurd h
 below_all (j ∷ js) chosen (m ∷ more) least greatest a t v l pos c from to h =
-    let s = span_of j in
+    let s = interval_of j in
     let n = narrows s least greatest m t c.0 (record { from = from; to = to; above = h.0; below = h.1 }) in
     let r = below_all js (chosen ++ (m ∷ [])) more (least_for s least m) (greatest_for s greatest m) m t v.1 (omega arith) c.0 c.2 n.0 n.1 h.2 in
     let some : ltb (greatest_for s greatest m) (least_for s least m) ≡ false = le-ltb _ _ (le_trans n.0 n.1) in
-    let i : Memᴰ r.0 (under (map span_of js) s chosen least greatest m) = in_open (ltb (greatest_for s greatest m) (least_for s least m)) some r.1 in
-    let tried = climb_to a (s.longest / least) (first_multiplier s greatest a) in
+    let i : Memᴰ r.0 (under (map interval_of js) s chosen least greatest m) = in_open (ltb (greatest_for s greatest m) (least_for s least m)) some r.1 in
+    let tried = climb_to a (s.hi.0 / least) (first_multiplier s greatest a) in
     let among : Memᴰ m tried = multiplier_listed s least greatest a m t l pos c.1 from to h.0 h.1 in
-    (r.0, flat_has (under (map span_of js) s chosen least greatest) tried among i, r.2 ∙ append_snoc chosen m more)
+    (r.0, flat_has (under (map interval_of js) s chosen least greatest) tried among i, r.2 ∙ append_snoc chosen m more)
 
-starts : (ss : List Span) (chosen : List ℕ) (least greatest a : ℕ) {z : Zone} → Memᴰ z (zones_below ss chosen least greatest a)
+starts : (ss : List Interval) (chosen : List ℕ) (least greatest a : ℕ) {z : Zone} → Memᴰ z (zones_below ss chosen least greatest a)
     → (more : List ℕ) × (z.multipliers ≡ chosen ++ more)
 unfolding zones_below
 starts [] chosen least greatest a i = ([], ap (λ (z : Zone). z.multipliers) (mathlib.Core.List.Memᴰ.eq_of_singleton i) ∙ sym (append-nil chosen))
 starts (s ∷ ss) chosen least greatest a i =
-    let r = in_flat (under ss s chosen least greatest) (climb_to a (s.longest / least) (first_multiplier s greatest a)) i in
+    let r = in_flat (under ss s chosen least greatest) (climb_to a (s.hi.0 / least) (first_multiplier s greatest a)) i in
     let m = r.0 in
     let l = least_for s least m in
     let g = greatest_for s greatest m in
     let b = starts ss (chosen ++ (m ∷ [])) l g m (in_nonempty (ltb g l) r.2).1 in
     (m ∷ b.0, b.1 ∙ append_snoc chosen m b.0)
 
-under_starts : (ss : List Span) (s : Span) (chosen : List ℕ) (least greatest m : ℕ) {z : Zone} → Memᴰ z (under ss s chosen least greatest m)
+under_starts : (ss : List Interval) (s : Interval) (chosen : List ℕ) (least greatest m : ℕ) {z : Zone} → Memᴰ z (under ss s chosen least greatest m)
     → (more : List ℕ) × (z.multipliers ≡ chosen ++ m ∷ more)
 under_starts ss s chosen least greatest m i =
     let l = least_for s least m in
@@ -149,7 +150,7 @@ under_starts ss s chosen least greatest m i =
     (b.0, b.1 ∙ append_snoc chosen m b.0)
 
 -- parts for rising multipliers, each part rising, make a rising list
-rising_parts : (ss : List Span) (s : Span) (chosen : List ℕ) (least greatest : ℕ) → ((m : ℕ) → ZonesRise (under ss s chosen least greatest m))
+rising_parts : (ss : List Interval) (s : Interval) (chosen : List ℕ) (least greatest : ℕ) → ((m : ℕ) → ZonesRise (under ss s chosen least greatest m))
     → (ms : List ℕ) → RisingNumbers ms → ZonesRise (flat_map (under ss s chosen least greatest) ms)
 unfolding flat_map
 rising_parts ss s chosen least greatest each [] h = tt
@@ -169,12 +170,12 @@ unfolding unless_empty
 rising_open true zs h = tt
 rising_open false zs h = h
 
-below_rising : (ss : List Span) (chosen : List ℕ) (least greatest a : ℕ) → ZonesRise (zones_below ss chosen least greatest a)
+below_rising : (ss : List Interval) (chosen : List ℕ) (least greatest a : ℕ) → ZonesRise (zones_below ss chosen least greatest a)
 unfolding zones_below
 below_rising [] chosen least greatest a = (λ y i. absurd (mathlib.Core.List.Memᴰ.not-nil i), tt)
 below_rising (s ∷ ss) chosen least greatest a =
     rising_parts ss s chosen least greatest (λ m. rising_open (ltb (greatest_for s greatest m) (least_for s least m)) _ (below_rising ss (chosen ++ (m ∷ [])) (least_for s least m) (greatest_for s greatest m) m))
-    (climb_to a (s.longest / least) (first_multiplier s greatest a)) (climb_rising a (s.longest / least) (first_multiplier s greatest a))
+    (climb_to a (s.hi.0 / least) (first_multiplier s greatest a)) (climb_rising a (s.hi.0 / least) (first_multiplier s greatest a))
 
 -- two zones of the same jobs with the same multipliers are one
 pub same_zone : (js : List Job) {y z : Zone} → IsZone js y → IsZone js z → y.multipliers ≡ z.multipliers → y ≡ z
@@ -236,7 +237,7 @@ zones_all js h v z a =
 zones_rising : (js : List Job) → ZonesRise (zones_for js)
 unfolding zones_in
 zones_rising [] = tt
-zones_rising (j ∷ js) = below_rising (map span_of js) (1 ∷ []) j.lo.0 j.hi.0 1
+zones_rising (j ∷ js) = below_rising (map interval_of js) (1 ∷ []) j.lo.0 j.hi.0 1
 
 -- The listing of valid jobs is the list of their zones.
 pub listing_is : (js : List Job) → 1 ≤ length js → ValidJobs js → ZonesOf js (zones_for js)

@@ -1,13 +1,12 @@
 -- Harmonic zones, their rows, and what listing them answers (document 01, Zones and Packing). The record Zone, a range and its
 -- multipliers, stands in specs/Zone.antt of zone_walk. Cited by public contracts. Assumes nothing.
-use Rattle.std.specs.Prelude.{◌≡◌, ◌↔◌, ℕ, ◌*◌, ◌≤◌, length, get_or}
+use Rattle.std.specs.Prelude.{Result, ◌≡◌, ◌↔◌, ℕ, ◌*◌, ◌≤◌, length, get_or}
 use mathlib.Core.List.{List, [], ◌∷◌, ◌++◌, map, flat_map, Memᴰ}
 use Rattle.model.specs.declared.Seconds.{Seconds}
 use Rattle.model.specs.declared.Job.{Job}
 use Rattle.model.specs.declared.Profile.{Profile}
-use Rattle.model.specs.declared.Counted.{Counted}
-use Rattle.model.specs.declared.Verdict.TheVariants.{Sound}
-use Rattle.model.specs.Model.{seconds, entries, Rising, jobs_of, Permitted, verdict_of, row_size, count_verdict, PutsFront}
+use Rattle.model.specs.declared.Refusal.{Refusal}
+use Rattle.model.specs.Model.{sound, seconds, entries, Rising, jobs_of, Permitted, verdict_of, row_size, count_verdict, PutsFront}
 use Rattle.codec.specs.Layout.{byte_widths}
 use Rattle.codec.specs.Packing.{recut}
 use Rattle.zone_walk.specs.Zone.{Zone}
@@ -49,8 +48,8 @@ rows_of zs = flat_map (λ z. recut zone_widths (byte_widths row_size) (zone_fiel
 
 -- What `list_zones` may answer, and leave of a lent buffer that held `old`; for a refused profile nothing is said of `zones`.
 -- For a sound one there are no zones, and so 9 is answered, exactly where no list is permitted (Refusal numbers, 9).
-pub record Listed (p : Profile) (old : List ℕ) (r : Counted) (new : List ℕ) : Type 0 where
+pub record Listed (p : Profile) (old : List ℕ) (r : Result ℕ Refusal) (new : List ℕ) : Type 0 where
   pub zones : List Zone
-  pub are : verdict_of p ≡ Sound → ZonesOf (jobs_of p) zones
-  pub none : verdict_of p ≡ Sound → (length zones ≡ 0) ↔ ((ts : List Seconds) → Permitted (jobs_of p) ts → ⊥)
+  pub are : verdict_of p ≡ sound → ZonesOf (jobs_of p) zones
+  pub none : verdict_of p ≡ sound → (length zones ≡ 0) ↔ ((ts : List Seconds) → Permitted (jobs_of p) ts → ⊥)
   pub puts : PutsFront p (count_verdict (length zones) (length old)) (length zones) (rows_of zones) old r new

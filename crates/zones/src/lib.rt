@@ -5,100 +5,71 @@
 #![tactic(auto)]
 
 ghost use Rattle.std.specs.Prelude.{◌≡◌, ◌^◌, ◌<◌, length};
+ghost use Rattle.model.specs.Valid.{Valid};
 ghost use Rattle.zones.specs.Zones.{Listed};
-ghost use Rattle.zone_walk.specs.Listing.{Spans, spans_from, zones_in};
-ghost use Rattle.zones.specs.ZoneRows.{RowNumbers, high_word, low_word, Wrote};
+ghost use Rattle.zone_walk.specs.Listing.{Bounded, intervals_in, zones_in};
+ghost use Rattle.zones.specs.ZoneRows.{high_word, low_word, Wrote};
 
-use model::{Counted, Profile, Seconds, Verdict};
+use codec::RowWords;
+use model::{Profile, Refusal};
+use zone_walk::{Intervals, Zone};
+
+// The widths of what a row's first word holds: the range, a2 to a4, and the four high bits of a5.
+const HIGH_WIDTHS: [u64; 6] = [12, 12, 12, 12, 12, 4];
+
+// The widths of what the second word holds: the eight low bits of a5, a6 to a8, and the spare field.
+const LOW_WIDTHS: [u64; 5] = [8, 12, 12, 12, 20];
 
 // Writes the rows of all zones to the front of `out`, or refuses: the profile's own refusal, 9, then 11 with the rows needed.
-pub fn list_zones(p: Profile, out: &mut [u8]) -> Counted
+#[tactic(auto, using(model::proofs::Validity::judged_valid, crate::proofs::Outcome::refused_listed))]
+pub fn list_zones(p: Profile, out: &mut [u8]) -> Result<u64, Refusal>
     ensures { Listed p out.old result out.new }
 {
-    let v = profile_judge::judge(p);
-    let Verdict::Sound = v else {
-        return Counted {
-            verdict: v,
-            count: 0,
-        };
+    let Err(refusal) = profile_judge::judge(p) else {
+        return list_sound(p, out);
     };
-    let n = p.n as usize;
-    let mut shortest = [0u32; 8];
-    let mut longest = [0u32; 8];
-    zone_walk::intervals(p, &mut shortest, &mut longest);
+    Err(refusal)
+}
+
+// The same for a sound profile.
+fn list_sound(p: Profile, out: &mut [u8]) -> Result<u64, Refusal>
+    requires { Valid p }
+    ensures { Listed p out.old result out.new }
+{
+    let intervals = Intervals::from(p);
     let mut nowhere = [0u8; 1];
-    let count = write_zones(n, &shortest, &longest, &mut nowhere) as u64;
-    let w = model::judge_count(count, out.len());
-    let Verdict::Sound = w else {
-        return Counted {
-            verdict: w,
-            count: 0,
-        };
-    };
-    write_zones(n, &shortest, &longest, out);
-    Counted {
-        verdict: Verdict::Sound,
-        count,
-    }
+    let count = write_zones(&intervals, &mut nowhere) as u64;
+    model::judge_count(count, out.len())?;
+    write_zones(&intervals, out);
+    Ok(count)
 }
 
 // Goes through all zones and writes their rows to the front of `out` where it has room for all; their number. One loop
 // serves counting, in no room, and writing: so the walk is compiled into it.
-fn write_zones(n: usize, shortest: &[u32; 8], longest: &[u32; 8], out: &mut [u8]) -> usize
-    requires { Spans n shortest.now longest.now × (length (zones_in (spans_from shortest.now longest.now 0 n)) < 2 ^ 31) }
-    ensures { Wrote (zones_in (spans_from shortest.now longest.now 0 n)) out.old out.new result }
+fn write_zones(intervals: &Intervals, out: &mut [u8]) -> usize
+    requires bounded { Bounded intervals.now }
+    requires few { length (zones_in (intervals_in intervals.now)) < 2 ^ 31 }
+    ensures { Wrote (zones_in (intervals_in intervals.now)) out.old out.new result }
 {
-    let mut multipliers = [0u32; 8];
-    let mut least = [0u32; 8];
-    let mut greatest = [0u32; 8];
     let mut row: usize = 0;
-    let mut found = zone_walk::first_zone(
-        n,
-        shortest,
-        longest,
-        &mut multipliers,
-        &mut least,
-        &mut greatest,
-    );
-    while found {
-        let high = high_word(
-            Seconds(least[n - 1]),
-            Seconds(greatest[n - 1]),
-            &multipliers,
-        );
-        let low = low_word(&multipliers);
-        codec::put_row(out, row, high, low);
+    for zone in intervals.zones() {
+        codec::put_row(out, row, words(&zone));
         row += 1;
-        found = zone_walk::next_zone(
-            n,
-            shortest,
-            longest,
-            &mut multipliers,
-            &mut least,
-            &mut greatest,
-        );
     }
     row
 }
 
-// The first eight bytes of a zone's row: the range, a2 to a4, and the four high bits of a5.
-fn high_word(least: Seconds, greatest: Seconds, multipliers: &[u32; 8]) -> u64
-    requires { RowNumbers least.0 greatest.0 multipliers.now }
-    ensures { result ≡ high_word least.0 greatest.0 multipliers.now }
+// The two words of a zone's row: a5 stands in both.
+fn words(zone: &Zone) -> RowWords
+    ensures high { result.high ≡ high_word zone.now }
+    ensures low { result.low ≡ low_word zone.now }
 {
-    (least.0 as u64) * 0x10_0000_0000_0000
-        + ((greatest.0 as u64) * 0x100_0000_0000
-            + ((multipliers[1] as u64) * 0x1000_0000
-                + ((multipliers[2] as u64) * 0x1_0000
-                    + ((multipliers[3] as u64) * 0x10 + (multipliers[4] as u64) / 0x100))))
-}
-
-// The last eight bytes of a zone's row: the eight low bits of a5, a6 to a8, and zeros.
-fn low_word(multipliers: &[u32; 8]) -> u64
-    requires { RowNumbers 0 0 multipliers.now }
-    ensures { result ≡ low_word multipliers.now }
-{
-    (multipliers[4] as u64) % 0x100 * 0x100_0000_0000_0000
-        + ((multipliers[5] as u64) * 0x1000_0000_0000
-            + ((multipliers[6] as u64) * 0x1_0000_0000 + (multipliers[7] as u64) * 0x10_0000))
+    let [_, a2, a3, a4, a5, a6, a7, a8] = zone.multipliers;
+    RowWords {
+        high: codec::pack_widths(
+            &HIGH_WIDTHS,
+            [zone.least.0, zone.greatest.0, a2, a3, a4, a5 / 256],
+        ),
+        low: codec::pack_widths(&LOW_WIDTHS, [a5 % 256, a6, a7, a8, 0]),
+    }
 }

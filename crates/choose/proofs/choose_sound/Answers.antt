@@ -1,46 +1,53 @@
--- `choose::choose_sound` meets its contract: the arrays hold the jobs, and what both walks leave is what is right.
+-- `choose::choose_sound` meets its contract: the numbers hold the jobs, and what both walks leave is what is right.
 -- Assumes nothing.
-use mathlib.Core.Path.{refl}
+use mathlib.Core.Path.{◌≡◌, refl, ◌∙◌, ap, sym}
 use Rattle.model.specs.Model.{jobs_of}
-use Rattle.walk.specs.Arrays.{Held}
+use Rattle.walk.specs.Walk.{start, walk}
+use Rattle.walk.specs.Numbers.{Held}
 use Rattle.walk.proofs.Filled.{all_held}
 use Rattle.walk.proofs.Cuts.{ready_start}
+use Rattle.choose_offer.specs.Found.{nothing, pick}
+use Rattle.choose_offer.specs.Plan.{found_in}
 use Rattle.choose.proofs.Answered.{best_found, plan_right, none_right, least_right}
-use Rattle.choose.proofs.choose_sound.Goals.{After-stiffnesses_of-stiffnesses}
+use Rattle.choose.proofs.choose_sound.Goals.{After-climb}
 use Rattle.choose.proofs.choose_sound.Goals as goal
 
--- the arrays hold the jobs
-held : (c : After-stiffnesses_of-stiffnesses) →
-    Held c.spans_of-spans.result c.pages_of-pages.result c.rates_of-rates.result c.stiffnesses_of-stiffnesses.result 0 c.args.p.n 0 (jobs_of c.args.p)
-held c =
-    all_held c.requires c.spans_of-spans.ensures c.pages_of-pages.ensures c.rates_of-rates.ensures c.stiffnesses_of-stiffnesses.ensures
+-- the numbers hold the jobs
+held : (c : After-climb) → Held c.numbers_of-numbers.result 0 0 (jobs_of c.args.p)
+held c = all_held c.requires c.numbers_of-numbers.ensures
 
-pub find_best-requires-clause-ready : goal.find_best-requires-clause-ready
-find_best-requires-clause-ready c = ready_start (held (goal.at.find_best-requires-clause-ready c).After-stiffnesses_of-stiffnesses)
+-- what is found is what the walk makes of nothing
+walked : (c : After-climb) → c.climb.new.kept ≡ walk (pick c.args.budget.0) (jobs_of c.args.p) start nothing
+walked c = c.climb.ensures.walked.is 0 (jobs_of c.args.p) (held c) ∙ ap (walk (pick c.args.budget.0) (jobs_of c.args.p) start) c.new-best.ensures
 
-pub plan-requires : goal.plan-requires
-plan-requires c =
-    let best = best_found (held (goal.at.plan-requires c).After-stiffnesses_of-stiffnesses) c.find_best.ensures refl c.if-best.true in
-    record {
-      valid = c.requires;
-      loads = c.pages_of-pages.ensures;
-      size = c.find_best.ensures.sizes.best_size;
-      permitted = best.best.permitted;
-      its_loss = best.its_loss;
-    }
+pub climb-requires-clause-ready : goal.climb-requires-clause-ready
+climb-requires-clause-ready c = ready_start (all_held c.requires c.numbers_of-numbers.ensures)
 
-pub returns-then-best : goal.returns-then-best
-returns-then-best c =
-    rw c.plan.ensures (plan_right (held (goal.at.returns-then-best c).After-stiffnesses_of-stiffnesses) c.find_best.ensures refl c.if-best.true)
+pub told-requires-clause-held : goal.told-requires-clause-held
+told-requires-clause-held c =
+    let d = (goal.at.told-requires-clause-held c).After-climb in
+    let best = best_found (held d) c.args.budget (walked d) (ap found_in (sym c.in-Some.is) ∙ c.plan.ensures) in
+    record { valid = c.requires; numbers = c.numbers_of-numbers.ensures; permitted = best.best.permitted }
 
-pub least_need-least-requires : goal.least_need-least-requires
-least_need-least-requires c =
-    record { stiffnesses = _; ready = ready_start (held (goal.at.least_need-least-requires c).After-stiffnesses_of-stiffnesses) }
+pub told-requires-clause-its_loss : goal.told-requires-clause-its_loss
+told-requires-clause-its_loss c =
+    let d = (goal.at.told-requires-clause-its_loss c).After-climb in
+    (best_found (held d) c.args.budget (walked d) (ap found_in (sym c.in-Some.is) ∙ c.plan.ensures)).its_loss
 
-pub returns-then-least : goal.returns-then-least
-returns-then-least c =
-    rw c.refusal.ensures (none_right (held (goal.at.returns-then-least c).After-stiffnesses_of-stiffnesses) c.find_best.ensures refl c.if-best.false _ c.least_need-least.ensures c.if-least.true)
+pub returns-in-Some : goal.returns-in-Some
+returns-in-Some c =
+    let d = (goal.at.returns-in-Some c).After-climb in
+    rw c.told.ensures (plan_right (held d) c.args.budget (walked d) (ap found_in (sym c.in-Some.is) ∙ c.plan.ensures))
 
-pub returns : goal.returns
-returns c =
-    rw c.refusal-2.ensures (least_right (held (goal.at.returns c).After-stiffnesses_of-stiffnesses) c.find_best.ensures refl c.if-best.false _ c.least_need-least.ensures c.if-least.false)
+pub least_need-requires : goal.least_need-requires
+least_need-requires c = ready_start (all_held c.requires c.numbers_of-numbers.ensures)
+
+pub returns-in-Some-least_need : goal.returns-in-Some-least_need
+returns-in-Some-least_need c =
+    let d = (goal.at.returns-in-Some-least_need c).After-climb in
+    least_right (held d) c.args.budget (walked d) (ap found_in (sym c.in-None.is) ∙ c.plan.ensures) (rw c.in-Some-least_need.is at c.least_need.ensures)
+
+pub returns-in-None-least_need : goal.returns-in-None-least_need
+returns-in-None-least_need c =
+    let d = (goal.at.returns-in-None-least_need c).After-climb in
+    none_right (held d) c.args.budget (walked d) (ap found_in (sym c.in-None.is) ∙ c.plan.ensures) (rw c.in-None-least_need.is at c.least_need.ensures)

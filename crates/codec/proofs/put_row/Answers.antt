@@ -6,9 +6,9 @@ use Rattle.codec.proofs.put_row.Goals as goal
 pub returns-then-k-out : goal.returns-then-k-out
 returns-then-k-out c =
     let a = c.args in
-    row_put a.out.now _ _ a.k a.high a.low c.if-k-out.true c.put_word.auto.out c.put_word.ensures c.put_word-then-k-out.ensures
+    row_put a.out.now _ _ a.k a.row.high a.row.low c.if-k-out.true c.put_word.auto.out c.put_word.ensures c.put_word-then-k-out.ensures
 
 pub returns-else-k-out : goal.returns-else-k-out
 returns-else-k-out c =
     let a = c.args in
-    row_out a.out.now a.k a.high a.low c.if-k-out.false
+    row_out a.out.now a.k a.row.high a.row.low c.if-k-out.false

@@ -18,11 +18,12 @@ loop-k-preserved c =
     let l = c.loop-k in
     let ts = c.args.periods in
     let parts = ap (map (λ (x : Seconds). x.0)) (entries_step (seconds 0) ts l.k 8 (omega arith)) in
-    let stored = ap (set l.answer (3 + l.k)) c.wide.ensures in
+    let stored = ap (set l.answer (3 + l.k)) c.from-in-loop-k.ensures in
     run_stored ((get_or ts l.k (seconds 0)).0 ∷ []) (left ts (l.k + 1)) parts stored (omega arith) l.invariant
 
 pub returns : goal.returns
 unfolding answer_of
 returns c =
     let l = c.loop-k in
-    all_stored (ap (map (λ (x : Seconds). x.0)) (entries_end (seconds 0) c.args.periods l.k 8 (omega arith))) l.invariant
+    rw (c.from.ensures, c.from-2.ensures) at
+    (all_stored (ap (map (λ (x : Seconds). x.0)) (entries_end (seconds 0) c.args.periods l.k 8 (omega arith))) l.invariant)

@@ -12,6 +12,3 @@ left ts k = map (λ (t : Seconds). t.0) (entries (seconds 0) ts k (8 - k))
 
 abbrev pub invariant-loop-k : goal.invariant-loop-k
 invariant-loop-k l = Completes (sets l.initial.answer 3 (left l.periods 0)) l.answer (3 + l.k) (left l.periods l.k)
-
-abbrev pub decreases-loop-k : goal.decreases-loop-k
-decreases-loop-k l = 8 - l.k

@@ -13,6 +13,3 @@ left js i = jobs_numbers (entries no_job js i (8 - i))
 
 abbrev pub invariant-loop-i : goal.invariant-loop-i
 invariant-loop-i l = Completes (sets l.initial.values 1 (left l.p.jobs 0)) l.values (1 + 5 * l.i) (left l.p.jobs l.i)
-
-abbrev pub decreases-loop-i : goal.decreases-loop-i
-decreases-loop-i l = 8 - l.i

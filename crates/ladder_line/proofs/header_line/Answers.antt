@@ -7,4 +7,5 @@ use Rattle.ladder_line.proofs.header_line.Goals as goal
 pub returns : goal.returns
 unfolding header_line
 returns c =
-    put_then (put_then (put_then (put_then c.put-after_jobs.ensures c.put_spaced-after_n.ensures) c.put-after_rows.ensures) c.put_spaced-after_count.ensures) c.put.ensures
+    rw (← c.from.ensures)
+    (put_then (put_then (put_then (put_then c.put-after_jobs.ensures c.put_spaced-after_n.ensures) c.put-after_rows.ensures) c.put_spaced-after_count.ensures) c.put.ensures)

@@ -1,12 +1,8 @@
 -- `profile_read::values` meets its contract: after k turns the first k records' jobs stand before zeros.
 -- Assumes nothing.
-use Prim.Native.Nat.{◌-◌, ◌≤◌}
 use mathlib.Core.Path.{◌≡◌}
 use Rattle.profile_read.proofs.Records.{jobs_read}
 use Rattle.profile_read.proofs.values.Given as goal
 
 abbrev pub invariant-loop-k : goal.invariant-loop-k
-invariant-loop-k l = (l.k ≤ l.n) × (l.jobs ≡ jobs_read l.bytes l.k)
-
-abbrev pub decreases-loop-k : goal.decreases-loop-k
-decreases-loop-k l = l.n - l.k
+invariant-loop-k l = l.jobs ≡ jobs_read l.bytes l.k

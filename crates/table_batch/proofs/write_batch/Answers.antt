@@ -1,16 +1,15 @@
--- `table_batch::write_batch` meets its contract: before each turn the first k rows of the batch stand.
+-- `table_batch::write_batch` meets its contract: before each turn, what is left to write ends as the whole.
 -- Assumes nothing.
-use mathlib.Core.Path.{refl, ◌∙◌}
+use Prim.Native.Nat.{◌-◌}
 use native.Mathlib.Omega.{arith}
 use Rattle.table_batch.specs.Batch.{with_batch}
-use Rattle.table_batch.proofs.Batch.{one_written}
+use Rattle.table_batch.proofs.Batch.{one_written, all_written}
 use Rattle.table_batch.proofs.write_batch.Goals as goal
-
-pub loop-k-init : goal.loop-k-init
-unfolding with_batch
-loop-k-init c = (omega arith, refl, refl)
 
 pub loop-k-preserved : goal.loop-k-preserved
 loop-k-preserved c =
-    let put = c.put_row in
-    (omega (arith, c.loop-k-test.true), put.auto.table ∙ c.loop-k.invariant.1, one_written _ _ _ _ c.loop-k.invariant.2 put.ensures)
+    let l = c.loop-k in
+    one_written c.args.rows.now c.args.end l.k c.index-rows-k.result c.words.result l.out c.put_row.new.table (with_batch c.args.rows.now c.args.end c.args.out.now) c.loop-k-test.true c.index-rows-k.is c.words.ensures c.put_row.ensures l.invariant
+
+pub returns : goal.returns
+returns c = all_written c.args.rows.now (c.args.end - c.loop-k.k) c.loop-k.k c.loop-k.out (with_batch c.args.rows.now c.args.end c.args.out.now) (omega (arith, c.loop-k-test.false)) c.loop-k.invariant

@@ -5,7 +5,9 @@ use mathlib.Core.Path.{◌≡◌, ◌∙◌, sym, ap}
 use mathlib.Core.Bool.{true, not}
 use native.Mathlib.Omega.{arith}
 use lib.ListN.{get_or}
-use Rattle.model.specs.Model.{seconds, pages_per_hour, no_job}
+use borrow.Author.Tests.{not-true, not-false, eqb-true}
+use Rattle.std.proofs.lemmas.Bool.{eqb-false}
+use Rattle.model.specs.Model.{seconds, no_job}
 use Rattle.model.specs.Testing.{allows}
 use Rattle.model.proofs.Validity.{job_valid_at}
 use Rattle.model.proofs.Allowing.{allowed}
@@ -13,6 +15,8 @@ use Rattle.step.specs.Step.{load_at}
 use Rattle.step.proofs.Bounds.{load_bound}
 use Rattle.step.proofs.Fits.{need_rounded}
 use Rattle.step.proofs.Along.{along_fits, along_loss_fits}
+use Rattle.walk.specs.declared.JobNumbers.{JobNumbers}
+use Rattle.walk.specs.Numbers.{numbers_at}
 use Rattle.table_check.proofs.Turns.{Scanned, first_places, place_off, next_place, next_zero, scanned_row, no_more, place_fails, zero_fails, start_fails, order_fails, next_row}
 use Rattle.table_check.proofs.first_bad_row.Goals.{After-rounded_up, At-loop-i, Else-not-allowed}
 use Rattle.table_check.proofs.first_bad_row.Goals as goal
@@ -22,19 +26,19 @@ passed : (c : Else-not-allowed) → allows (get_or c.args.p.jobs c.loop-i.i no_j
 passed c = sym c.allowed.ensures ∙ c.if-not-allowed.false
 
 -- past the loop over a row's periods its need and its loss are known
-scanned : (c : After-rounded_up) → Scanned c.args.p c.args.table.now c.rows.k c.row_at-row.result c.rounded_up.result c.loop-i.lost
+scanned : (c : After-rounded_up) → Scanned c.args.p c.args.table.now c.loop-k.k c.row_at-row.result c.rounded_up.result c.loop-i.lost
 scanned c = rw (need_rounded _ _ c.exact_need.ensures c.rounded_up.ensures) (scanned_row c.requires c.row_at-row.ensures c.loop-i.invariant (omega arith))
 
 -- the pages for need of the job at hand
-own : (c : At-loop-i) → c.loop-i.i < c.args.p.n → get_or c.pages_of-pages.result c.loop-i.i 0 ≡ load_at c.args.p c.loop-i.i
-own c less = c.pages_of-pages.ensures.front c.loop-i.i zero-le less
+own : (c : At-loop-i) → c.loop-i.i < c.args.p.n → (numbers_at c.numbers_of-numbers.result c.loop-i.i).load ≡ load_at c.args.p c.loop-i.i
+own c less = ap (λ (j : JobNumbers). j.load) (c.numbers_of-numbers.ensures.are c.loop-i.i zero-le less)
 
 pub loop-i-init : goal.loop-i-init
 loop-i-init c = first_places _ _
 
 -- a zero beyond the jobs
 pub loop-i-preserved-then-n-i : goal.loop-i-preserved-then-n-i
-loop-i-preserved-then-n-i c = next_zero c.loop-i.invariant c.if-n-i.true (omega arith) c.if-t-ne0.false
+loop-i-preserved-then-n-i c = next_zero c.loop-i.invariant c.if-n-i.true (omega arith) (eqb-true _ _ (not-false _ (sym c.ne.ensures ∙ c.if-ne.false)))
 
 pub carry-written-requires : goal.carry-written-requires
 carry-written-requires c =
@@ -44,10 +48,10 @@ carry-written-requires c =
 
 pub loss_with-lost-requires : goal.loss_with-lost-requires
 loss_with-lost-requires c =
-    let fastest = c.rates_of-rates.ensures.front c.loop-i.i zero-le c.if-n-i.false in (
+    let fastest = ap (λ (j : JobNumbers). j.fastest) (c.numbers_of-numbers.ensures.are c.loop-i.i zero-le c.if-n-i.false) in (
       job_valid_at _ c.loop-i.i c.requires c.if-n-i.false,
       (allowed _ c.loop-i.before _ (passed (goal.at.loss_with-lost-requires c).Else-not-allowed)).above,
-      ap pages_per_hour fastest,
+      fastest,
     )
 
 pub overflow_add-lost : goal.overflow_add-lost
@@ -60,25 +64,25 @@ loop-i-preserved c =
     let at = goal.at.loop-i-preserved c in
     rw (c.carry-written.ensures, own at.At-loop-i c.if-n-i.false, c.loss_with-lost.ensures) (next_place c.requires c.loop-i.invariant c.if-n-i.false (passed at.Else-not-allowed))
 
-pub rows-preserved : goal.rows-preserved
-rows-preserved c =
-    next_row c.rows.invariant c.if-rows-k.false (scanned (goal.at.rows-preserved c).After-rounded_up) c.if-rounded_up-start.false c.may_follow.ensures (ap not c.if-not-may_follow.false)
+pub loop-k-preserved : goal.loop-k-preserved
+loop-k-preserved c =
+    next_row c.loop-k.invariant c.loop-k-test.true (scanned (goal.at.loop-k-preserved c).After-rounded_up) (eqb-true _ _ (not-false _ (sym c.ne-in-loop-k.ensures ∙ c.if-ne-2.false))) c.may_follow.ensures (ap not c.if-not-may_follow.false)
 
-pub returns-then-rows-k : goal.returns-then-rows-k
-returns-then-rows-k c = no_more c.rows.invariant c.if-rows-k.true
+pub returns-after-loop-k : goal.returns-after-loop-k
+returns-after-loop-k c = no_more c.loop-k.invariant (omega arith)
 
-pub returns-then-t-ne0 : goal.returns-then-t-ne0
-returns-then-t-ne0 c = zero_fails c.rows.invariant c.if-rows-k.false c.row_at-row.ensures c.if-n-i.true (omega arith) c.if-t-ne0.true
+pub returns-then-ne : goal.returns-then-ne
+returns-then-ne c = zero_fails c.loop-k.invariant c.loop-k-test.true c.row_at-row.ensures c.if-n-i.true (omega arith) (eqb-false _ _ (not-true _ (sym c.ne.ensures ∙ c.if-ne.true)))
 
 pub returns-then-not-allowed : goal.returns-then-not-allowed
 returns-then-not-allowed c =
     let off = place_off c.requires c.loop-i.invariant c.if-n-i.false (sym c.allowed.ensures ∙ c.if-not-allowed.true) in
-    place_fails c.rows.invariant c.if-rows-k.false c.row_at-row.ensures off
+    place_fails c.loop-k.invariant c.loop-k-test.true c.row_at-row.ensures off
 
-pub returns-then-rounded_up-start : goal.returns-then-rounded_up-start
-returns-then-rounded_up-start c =
-    start_fails c.rows.invariant c.if-rows-k.false (scanned (goal.at.returns-then-rounded_up-start c).After-rounded_up) c.if-rounded_up-start.true
+pub returns-then-ne-2 : goal.returns-then-ne-2
+returns-then-ne-2 c =
+    start_fails c.loop-k.invariant c.loop-k-test.true (scanned (goal.at.returns-then-ne-2 c).After-rounded_up) (eqb-false _ _ (not-true _ (sym c.ne-in-loop-k.ensures ∙ c.if-ne-2.true)))
 
 pub returns-then-not-may_follow : goal.returns-then-not-may_follow
 returns-then-not-may_follow c =
-    order_fails c.rows.invariant c.if-rows-k.false (scanned (goal.at.returns-then-not-may_follow c).After-rounded_up) c.may_follow.ensures (ap not c.if-not-may_follow.true)
+    order_fails c.loop-k.invariant c.loop-k-test.true (scanned (goal.at.returns-then-not-may_follow c).After-rounded_up) c.may_follow.ensures (ap not c.if-not-may_follow.true)

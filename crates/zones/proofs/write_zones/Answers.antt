@@ -1,30 +1,29 @@
--- `zones::write_zones` meets its contract: before each turn the rows of the zones passed stand at the front, if all have room, and the others are to come.
+-- `zones::write_zones` meets its contract: before each turn the rows of the zones passed stand at the front, if all have
+-- room.
 -- Assumes nothing.
-use mathlib.Core.Path.{refl}
+use mathlib.Core.Path.{sym, ◌∙◌}
+use mathlib.Core.List.{map-id}
 use native.Mathlib.Omega.{arith}
-use Rattle.zones.proofs.ZoneRows.{none_written, all_written, row_inside, numbers, one_written, fewer_left}
+use Rattle.std.proofs.lemmas.Iterator.Consumers.{YieldsList-from_first, YieldsList-turn, YieldsList-end}
+use Rattle.zone_walk.specs.Listing.{zones_in, intervals_in}
+use Rattle.zones.proofs.ZoneRows.{none_written, one_written, all_written}
 use Rattle.zones.proofs.write_zones.Goals as goal
 
-pub loop-found-init : goal.loop-found-init
-loop-found-init c = none_written c.first_zone-found.ensures
+pub loop-zone-init : goal.loop-zone-init
+loop-zone-init c = (none_written _ _, tt, tt)
 
-pub high_word-high-requires : goal.high_word-high-requires
-high_word-high-requires c = numbers _ _ _ _ _ _ c.loop-found.invariant c.loop-found-test.true
-
-pub low_word-low-requires : goal.low_word-low-requires
-low_word-low-requires c =
-    let r = numbers _ _ _ _ _ _ c.loop-found.invariant c.loop-found-test.true in
-    record { least_to = omega arith; greatest_to = omega arith; a2 = r.a2; a3 = r.a3; a4 = r.a4; a5 = r.a5; a6 = r.a6; a7 = r.a7; a8 = r.a8 }
-
-pub overflow_add-row : goal.overflow_add-row
-overflow_add-row c = omega (arith, row_inside _ _ _ _ _ _ c.loop-found.invariant c.loop-found-test.true, c.requires.1)
-
-pub loop-found-smaller : goal.loop-found-smaller
-loop-found-smaller c = fewer_left _ _ _ _ _ _ c.loop-found.invariant c.loop-found-test.true c.next_zone-found.ensures
-
-pub loop-found-preserved : goal.loop-found-preserved
-loop-found-preserved c =
-    one_written _ _ _ _ _ _ c.loop-found.invariant c.loop-found-test.true _ _ c.high_word-high.ensures c.low_word-low.ensures c.put_row.auto.out c.put_row.ensures c.next_zone-found.ensures refl
+pub loop-zone-preserved : goal.loop-zone-preserved
+loop-zone-preserved c =
+    let all = zones_in (intervals_in c.args.intervals.now) in
+    let walk = YieldsList-from_first (λ z. z) (λ zones. zones) all (c.into_iter-zone-iterator.ensures.into_iter_gives ∙ c.zones-zone-items.ensures) in
+    let turn = YieldsList-turn walk c.loop-zone.yielded _ c.loop-zone.yielded_by _ _ c.in-Some.zone c.in-Some.is c.next.ensures.steps in
+    let written = one_written all c.loop-zone.yielded c.args.out.now c.loop-zone.out c.loop-zone.row c.loop-zone.invariant.0 c.in-Some.zone turn.0
+    c.words.result.high c.words.result.low c.words.ensures.high c.words.ensures.low (omega arith) (omega arith) c.put_row.auto.out c.put_row.ensures in
+    (written, tt, tt)
 
 pub returns : goal.returns
-returns c = all_written _ _ _ _ _ _ c.loop-found.invariant c.loop-found-test.false
+returns c =
+    let all = zones_in (intervals_in c.args.intervals.now) in
+    let walk = YieldsList-from_first (λ z. z) (λ zones. zones) all (c.into_iter-zone-iterator.ensures.into_iter_gives ∙ c.zones-zone-items.ensures) in
+    let end = YieldsList-end walk c.loop-zone.yielded _ c.loop-zone.yielded_by _ _ c.in-None.is c.next.ensures.steps in
+    all_written c.loop-zone.invariant.0 (sym (map-id c.loop-zone.yielded) ∙ end.0)
