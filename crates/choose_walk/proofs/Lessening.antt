@@ -101,7 +101,7 @@ module _ {m : Numbers} {b : Begun} {tries : Tries} {had now : Option PagesPerHou
   down_carry = (ready_need d.ready, down_to, ready_own d.ready d.less)
 
   pub down_ends_at : Ends m (b.jobs + 1) t
-  down_ends_at = record { upto = omega (arith, d.less); most = d.ready.held.most; from = t-from }
+  down_ends_at = record { most = d.ready.held.most; from = t-from }
 
   -- The walk below this period takes what is had to `after`.
   abbrev Below : Option PagesPerHour → Type 0

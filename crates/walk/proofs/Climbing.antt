@@ -142,7 +142,7 @@ module _ {A : Type 0} {f : ℕ → ℕ → List Seconds → A → A} {m : Number
     up_later = record { greatest = max u.ready.greatest opened.job.metadata; js = opened.rest; held = opened.later; from = omega (arith, opened.holds.valid.lo_from, opened.holds.shortest, u.up.above) }
 
     pub up_ends : Ends m (b.jobs + 1) t
-    up_ends = record { upto = omega (arith, u.less); most = u.ready.held.most; from = up_later.from }
+    up_ends = record { most = u.ready.held.most; from = up_later.from }
 
     -- the first multiplier that reaches the interval
     pub up_first : 1 ≤ tries.first.0 / b.last.0

@@ -35,7 +35,6 @@ pub record MayTry (j : JobNumbers) (step : Seconds) : Type 0 where
 
 -- Places from i on among at most eight, and a period.
 pub record Ends (m : Numbers) (i : ℕ) (t : Seconds) : Type 0 where
-  pub upto : i ≤ m.n
   pub most : m.n ≤ 8
   pub from : 1 ≤ t.0
 

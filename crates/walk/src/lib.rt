@@ -146,7 +146,9 @@ impl Numbers {
         requires { Ends self.now from t }
         ensures { result ≡ false → Unreached self.now from t }
     {
-        self.jobs[from..self.n].iter().all(|j| j.has_multiple(t))
+        self.jobs[from.min(self.n)..self.n]
+            .iter()
+            .all(|j| j.has_multiple(t))
     }
 }
 

@@ -1,7 +1,7 @@
 -- `walk::Numbers::reaches` meets its contract: where it says no, some job's test did.
 -- Assumes nothing.
 use mathlib.Core.Path.{◌≡◌}
-use Prim.Native.Nat.{◌+◌, ◌-◌, ◌*◌, ◌/◌, ◌≤◌, ◌<◌}
+use Prim.Native.Nat.{◌+◌, ◌-◌, ◌*◌, ◌/◌, ◌≤◌, ◌<◌, min}
 use native.Mathlib.Omega.{arith}
 use lib.ListN.{get_or}
 use borrow.Author.Tests.{tests}
@@ -16,7 +16,7 @@ use Rattle.walk.proofs.Numbers.reaches.Goals as goal
 pub returns : goal.returns
 returns c =
     let m = c.args.self.now in
-    let i = c.args.from in
+    let i = min c.args.from m.n in
     let t = c.args.t.0 in
     let jobs = mid_of i (m.n - i) m.jobs in
     let multiple = λ (j : JobNumbers). j.lo.0 ≤ j.hi.0 / t * t in
@@ -25,4 +25,4 @@ returns c =
     λ no.
     (let one = rw no at cases in
     let at : get_or jobs one.0 no_numbers ≡ numbers_at m (i + one.0) = grind (arith, places) in
-    (i + one.0, omega arith, grind (arith, places), rw at at (one.2 no_numbers)))
+    (i + one.0, grind (arith, places), grind (arith, places), rw at at (one.2 no_numbers)))
