@@ -23,6 +23,7 @@ use Rattle.choose.specs.Steps.{settle}
 use Rattle.walk.proofs.Falling.{down_lists}
 use Rattle.walk.proofs.Held.{held_valid}
 use Rattle.choose_walk.proofs.Fold.{walk_best}
+use Rattle.choose_walk.proofs.Lessening.{same_numbers}
 use Rattle.choose.proofs.LeastNeed.{walk_least}
 use Rattle.choose.proofs.Settled.{settled}
 
@@ -48,7 +49,7 @@ module _ {m : Numbers} {js : List Job} (held : Held m 0 0 js) (b : PagesPerHour)
 
     least_or_none : (r : Option PagesPerHour) → Lessens m none_begun None r → LeastOrNone js (least_in r)
     unfolding least_in
-    least_or_none r l = subst (LeastOrNone js) (sym (l 0 js 0 [] held)) (walk_least down_lists js (held_valid js held))
+    least_or_none r l = subst (LeastOrNone js) (sym (l m (same_numbers m) 0 js 0 [] held)) (walk_least down_lists js (held_valid js held))
 
     pub none_right : Lessens m none_begun None None → Outcome js b (Err NoPeriods)
     unfolding settle least_in

@@ -11,6 +11,10 @@ use Rattle.choose_offer.specs.Found.{Found, nothing, found, beats, pick}
 abbrev pub AnyFound : Found → Type 0
 AnyFound had = Unit {0}
 
+-- Whatever a plan's periods are, it may be kept.
+abbrev pub AnySeconds : Seconds → Type 0
+AnySeconds t = Unit {0}
+
 -- Whether a plan of this need and loss is taken.
 abbrev taken : ℕ → ℕ → ℕ → Found → Bool
 taken b q l had = leb q b && beats q l had

@@ -8,7 +8,7 @@ ghost use Rattle.std.specs.Prelude.{◌≡◌, ◌≤◌, length};
 ghost use Rattle.model.specs.Model.{seconds, padded};
 ghost use Rattle.choose_offer.specs.Found.{nothing, beats, pick};
 ghost use Rattle.choose_offer.specs.Plan.{found_in};
-ghost use Rattle.choose_offer.specs.Laws.{AnyFound, pick_absorbs};
+ghost use Rattle.choose_offer.specs.Laws.{AnyFound, AnySeconds, pick_absorbs};
 
 use model::{ExactNeed, PagesPerHour, Seconds};
 use std::marker::Model;
@@ -56,6 +56,13 @@ impl Plan {
             n,
             periods: kept,
         }
+    }
+
+    // The need, rounded up.
+    pub fn need(&self) -> PagesPerHour
+        ensures { result ≡ self.now.need }
+    {
+        self.need
     }
 
     pub fn loss(&self) -> u64
@@ -123,9 +130,13 @@ impl Best {
 impl Keep for Best {
     ghost Good = { AnyFound };
 
+    ghost Keepable = { AnySeconds };
+
     ghost update = { λ budget. pick budget.0 };
 
     ghost absorbs = { λ budget. pick_absorbs budget.0 };
+
+    ghost keeps_periods = { λ t is. tt };
 
     #[tactic(auto, using(crate::proofs::Updates::kept_at_floors))]
     fn is_done(&self, floor: u64) -> bool {

@@ -1,7 +1,7 @@
 -- The loop of the least need's walk, turn by turn: what is had is what the walk from the present multiple down would
--- start from.
+-- start from, for jobs of every stiffness with which the numbers can hold them.
 -- Assumes nothing.
-use mathlib.Core.Path.{◌≡◌, sym, ◌∙◌, ap, subst}
+use mathlib.Core.Path.{◌≡◌, refl, sym, ◌∙◌, ap, subst}
 use mathlib.Core.List.{List, [], ◌∷◌, ◌++◌}
 use Prim.Native.Nat.{ℕ, ◌+◌, ◌*◌, ◌-◌, ◌/◌, ◌%◌, ◌≤◌, ◌<◌, min, max, zero-le}
 use native.Mathlib.Omega.{arith}
@@ -15,19 +15,20 @@ use Rattle.model.specs.Most.{most_pages, most_need}
 use Rattle.model.proofs.Rounding.{round_up_above, multiple_is, multiple_above, split_product}
 use Rattle.step.specs.Step.{load, carried, need_at, NeedFits}
 use Rattle.walk.specs.declared.Tries.{Tries}
+use Rattle.walk.specs.declared.JobNumbers.{JobNumbers}
 use Rattle.walk.specs.declared.Numbers.{Numbers}
 use Rattle.walk.specs.declared.Begun.{Begun}
 use Rattle.walk.specs.Walk.{need_floor, node, next, walk_by, walk_down, walk_down_from}
 use Rattle.walk.specs.Numbers.{numbers_at, Held}
-use Rattle.walk.specs.Steps.{tries_held, Ends, Unreached, Ready}
+use Rattle.walk.specs.Steps.{tries_held, MayTry, Ends, Unreached, Ready}
 use Rattle.walk.specs.Laws.{Keeps}
 use Rattle.walk.proofs.Falling.{down_lists}
 use Rattle.walk.proofs.Walk.{walk_cut}
 use Rattle.walk.proofs.Loops.{down_opens, down_takes, down_ends}
 use Rattle.walk.proofs.Held.{Opened, held_open, held_none, held_next, held_valid}
-use Rattle.walk.proofs.Cuts.{need_floor_is, unreached, more_begun, ready_need, ready_own, ready_tries, next_ready, next_floor}
+use Rattle.walk.proofs.Cuts.{need_floor_is, unreached, more_begun, ready_more, ready_need, ready_own, ready_tries, next_ready, next_floor}
 use Rattle.choose_walk.specs.Least.{less_need, least}
-use Rattle.choose_walk.specs.Steps.{least_in, Lessens}
+use Rattle.choose_walk.specs.Steps.{ButForStiffness, nothing_lost, ReadyForNeed, least_in, LessensHeld, Lessens}
 
 -- the least of two needs, where one is no more
 pub least_kept : (q k : ℕ) → k ≤ q → least (min q k) ≡ least k
@@ -51,7 +52,7 @@ pub record DownTurn (m : Numbers) (b : Begun) (tries : Tries) (had now : Option 
 
 module _ {m : Numbers} {b : Begun} (r : Ready m b) where
   -- the last job has its period: one plan, its need
-  pub down_leaf : b.jobs ≡ m.n → (had after : Option PagesPerHour) → ((l : ℕ) (ts : List Seconds) → least_in after ≡ less_need (need_at b.written b.last) l ts (least_in had)) → Lessens m b had after
+  pub down_leaf : b.jobs ≡ m.n → (had after : Option PagesPerHour) → ((l : ℕ) (ts : List Seconds) → least_in after ≡ less_need (need_at b.written b.last) l ts (least_in had)) → LessensHeld m b had after
   unfolding walk_by
   down_leaf e had after one g js lost ts h =
       let none : js ≡ [] = held_none js (subst (λ (x : ℕ). Held m x g js) e h) in
@@ -67,7 +68,7 @@ module _ {m : Numbers} {b : Begun} (r : Ready m b) where
         opens g j js lost ts h = rw h.jobs.0.longest (sym (down_opens less_need j js (node b.last g b.written lost ts) (least_in had)))
 
     -- and ends below the first
-    pub down_done : b.jobs < m.n → {had now : Option PagesPerHour} {t : Seconds} → Down m b had now t → t.0 < tries.first.0 → Lessens m b had now
+    pub down_done : b.jobs < m.n → {had now : Option PagesPerHour} {t : Seconds} → Down m b had now t → t.0 < tries.first.0 → LessensHeld m b had now
     down_done less {had} {now} {t} d past g js lost ts h =
         let o = held_open js less h in
         let p = node b.last g b.written lost ts in
@@ -87,7 +88,7 @@ module _ {m : Numbers} {b : Begun} {tries : Tries} {had now : Option PagesPerHou
   t-from : 1 ≤ t.0
   t-from = omega (arith, above, opened.holds.shortest, opened.holds.valid)
 
-  down_to : t.0 ≤ 3600
+  pub down_to : t.0 ≤ 3600
   down_to = omega (arith, d.down.below, ready_tries d.ready d.less)
 
   pub down_room : b.last.0 ≤ t.0
@@ -150,7 +151,7 @@ module _ {m : Numbers} {b : Begun} {tries : Tries} {had now : Option PagesPerHou
     pages h = carries ∙ ap (λ (x : ℕ). carried b.written b.last t x) h.jobs.0.for_need
 
     -- what the walk below this period makes of what is had
-    pub down_turn : {after : Option PagesPerHour} → Lessens m (more_begun b t written b.lost) now after → Down m b had after (seconds (t.0 - b.last.0))
+    pub down_turn : {after : Option PagesPerHour} → LessensHeld m (more_begun b t written b.lost) now after → Down m b had after (seconds (t.0 - b.last.0))
     down_turn {after} lessens = turn below
       where
         below : Below after
@@ -166,3 +167,58 @@ module _ {m : Numbers} {b : Begun} {tries : Tries} {had now : Option PagesPerHou
             let least = need_at written t + (numbers_at m b.jobs).later.0 in
             let is : least ≡ need_floor (max g j.metadata) (carried b.written b.last t (load g j)) t js = need_floor_is h.jobs.0 t written ∙ ap (λ (x : ℕ). need_floor (max g j.metadata) x t js) (pages h) in
             walk_cut down_lists less_need (least_in now) js (next j (node b.last g b.written lost ts) t) valid t-from least 0 (omega arith) zero-le keeps
+
+-- numbers are themselves but for stiffness
+pub same_numbers : (m : Numbers) → ButForStiffness m m
+same_numbers m = record { count = refl; jobs = λ i. refl }
+
+-- Before each turn, whatever the stiffnesses.
+abbrev pub DownForNeed : Numbers → Begun → Option PagesPerHour → Option PagesPerHour → Seconds → Type 0
+DownForNeed m b had now t = (x : ReadyForNeed m b) → Down x.numbers (nothing_lost b) had now t
+
+-- From the numbers that the code has to those that hold the jobs, and back.
+module _ {m : Numbers} {b : Begun} (x : ReadyForNeed m b) where
+  same_lo : (i : ℕ) → (numbers_at x.numbers i).lo ≡ (numbers_at m i).lo
+  same_lo i = ap (λ (j : JobNumbers). j.lo) (x.same.jobs i)
+
+  same_hi : (i : ℕ) → (numbers_at x.numbers i).hi ≡ (numbers_at m i).hi
+  same_hi i = ap (λ (j : JobNumbers). j.hi) (x.same.jobs i)
+
+  pub same_load : (i : ℕ) → (numbers_at x.numbers i).load ≡ (numbers_at m i).load
+  same_load i = ap (λ (j : JobNumbers). j.load) (x.same.jobs i)
+
+  pub same_later : (i : ℕ) → (numbers_at x.numbers i).later ≡ (numbers_at m i).later
+  same_later i = ap (λ (j : JobNumbers). j.later) (x.same.jobs i)
+
+  -- jobs that are held with other stiffnesses are as ready
+  pub lessens_all : (had r : Option PagesPerHour) → ((y : ReadyForNeed m b) → LessensHeld y.numbers (nothing_lost b) had r) → Lessens m b had r
+  lessens_all had r each k s g js lost ts h =
+      let ready : Ready k (nothing_lost b) = record { greatest = g; js = js; held = h; from = x.ready.from; to = x.ready.to; bounded = x.ready.bounded } in
+      each (record { numbers = k; same = s; ready = ready }) g js lost ts h
+
+  -- every job has its period, or there is one more
+  pub need_whole : b.jobs ≡ m.n → b.jobs ≡ x.numbers.n
+  need_whole e = e ∙ sym x.same.count
+
+  pub need_more : (b.jobs ≡ m.n → ⊥) → b.jobs < x.numbers.n
+  need_more some = ready_more x.ready (λ e. some (e ∙ x.same.count))
+
+  -- the periods that it may try
+  pub need_tries : (b.jobs ≡ m.n → ⊥) → MayTry (numbers_at m b.jobs) b.last
+  need_tries some =
+      let may = ready_tries x.ready (need_more some) in
+      record { from = may.from; to = may.to; shortest_to = rw (same_lo b.jobs) at may.shortest_to; longest_to = rw (same_hi b.jobs) at may.longest_to }
+
+  pub need_told : {tries : Tries} → tries ≡ tries_held (numbers_at m b.jobs) b.last → tries ≡ tries_held (numbers_at x.numbers b.jobs) b.last
+  need_told told = rw (same_lo b.jobs, same_hi b.jobs) told
+
+  -- the pages with it
+  pub need_carries : (t : Seconds) {written : ℕ} → written ≡ carried b.written b.last t (numbers_at m b.jobs).load → written ≡ carried b.written b.last t (numbers_at x.numbers b.jobs).load
+  need_carries t carries = rw (same_load b.jobs) carries
+
+  -- the jobs after it
+  pub need_ends : {i : ℕ} {t : Seconds} → Ends x.numbers i t → Ends m i t
+  need_ends e = record { most = rw x.same.count at e.most; from = e.from }
+
+  pub need_unreached : {i : ℕ} (t : Seconds) → Unreached m i t → Unreached x.numbers i t
+  need_unreached t u = (u.0, u.1, rw x.same.count u.2, rw (same_lo u.0, same_hi u.0) u.3)

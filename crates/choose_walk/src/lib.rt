@@ -8,16 +8,15 @@
 ghost use Rattle.std.specs.Prelude.{◌≡◌, false, List, ℕ};
 ghost use Rattle.model.specs.declared.Seconds.{Seconds};
 ghost use Rattle.walk.specs.Laws.{Keeps};
-ghost use Rattle.walk.specs.Steps.{Ready};
 ghost use Rattle.choose_walk.specs.Least.{less_need};
-ghost use Rattle.choose_walk.specs.Steps.{least_in, Lessens};
+ghost use Rattle.choose_walk.specs.Steps.{least_in, ReadyForNeed, Lessens};
 
 use model::{PagesPerHour, Seconds};
 use walk::{Begun, Numbers};
 
 // The least need of all permitted plans that begin so, or `had` if that is less; longest periods first.
 pub fn least_need(m: &Numbers, begun: Begun, had: Option<PagesPerHour>) -> Option<PagesPerHour>
-    requires { Ready m.now begun }
+    requires { ReadyForNeed m.now begun }
     ensures { Lessens m.now begun had result }
 {
     if begun.jobs == m.n {

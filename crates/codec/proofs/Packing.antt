@@ -1,9 +1,9 @@
 -- The laws of packing, over any widths: each field sits above the bits of those after it, so packing and cutting undo each other.
 -- Assumes nothing.
 use mathlib.Core.Path.{◌≡◌, refl, sym, ◌∙◌, ap, ap₂, subst}
-use mathlib.Core.List.{List, [], ◌∷◌}
+use mathlib.Core.List.{List, [], ◌∷◌, ◌++◌}
 use Prim.Native.Nat.{ℕ, zero, suc, ◌+◌, ◌*◌, ◌/◌, ◌%◌, ◌^◌, ◌<◌}
-use native.Mathlib.Nat.{mod-lt}
+use native.Mathlib.Nat.{mod-lt, suc_inj, suc-ne-zero}
 use native.Mathlib.Omega.{arith}
 use lib.Arith.{digits_lt, lt-one}
 use lib.Pow.{pow_pos, pow-add, shr_lt, split, high, low, field, mod-mod-pow}
@@ -62,7 +62,19 @@ pub length_recut : (ws vs fs : List ℕ) → length (recut ws vs fs) ≡ length 
 unfolding recut
 length_recut ws vs fs = length_unpack vs (pack ws fs)
 
-bits_bytes : (k : ℕ) → bits (replicate k 8) ≡ 8 * k
+-- one byte more, behind the others
+pub pack_snoc : (k : ℕ) (bs : List ℕ) (b : ℕ) → length bs ≡ k → pack (replicate (suc k) 8) (bs ++ b ∷ []) ≡ pack (replicate k 8) bs * 256 + b
+unfolding pack bits
+pack_snoc zero [] b e = omega arith
+pack_snoc zero (x ∷ bs) b e = absurd (suc-ne-zero (length bs) e)
+pack_snoc (suc k) [] b e = absurd (suc-ne-zero k (sym e))
+pack_snoc (suc k) (x ∷ bs) b e =
+    let m = bits (replicate k 8) in
+    let weight : 2 ^ (8 + m) ≡ 256 * 2 ^ m = pow-add 2 8 m in
+    let rest = pack_snoc k bs b (suc_inj e) in
+    rw weight (omega (arith, rest))
+
+pub bits_bytes : (k : ℕ) → bits (replicate k 8) ≡ 8 * k
 unfolding bits
 bits_bytes zero = refl
 bits_bytes (suc k) = omega (arith, bits_bytes k)

@@ -22,18 +22,29 @@ bits_append [] us = omega arith
 bits_append (v ∷ vs) us = omega (arith, bits_append vs us)
 
 -- cutting by widths one after the other
-pub unpack_append : (vs us : List ℕ) (x : ℕ) → x < 2 ^ bits (vs ++ us) → unpack (vs ++ us) x ≡ unpack vs (x / 2 ^ bits us) ++ unpack us (x % 2 ^ bits us)
+abbrev Apart : List ℕ → List ℕ → ℕ → Type 0
+Apart vs us x = unpack (vs ++ us) x ≡ unpack vs (x / 2 ^ bits us) ++ unpack us (x % 2 ^ bits us)
+
+-- one width more in front, whose field has all that stands above the others
+more_apart : (v : ℕ) (vs us : List ℕ) (x : ℕ) → Apart vs us (x % 2 ^ bits (vs ++ us)) → Apart (v ∷ vs) us x
 unfolding unpack bits
-unpack_append [] us x h = ap (unpack us) (sym (mod-eq_of_lt h))
-unpack_append (v ∷ vs) us x h =
+more_apart v vs us x ih =
     let y = x % 2 ^ bits (vs ++ us) in
-    let ih = unpack_append vs us y (mod-lt x (pow_pos (bits (vs ++ us)))) in
     let sum = bits_append vs us in
     let top : x / 2 ^ bits (vs ++ us) ≡ x / 2 ^ bits us / 2 ^ bits vs =
     ap (λ (n : ℕ). x / 2 ^ n) (sum ∙ add_comm (bits vs) (bits us)) ∙ sym (shr-shr x (bits us) (bits vs)) in
     let mid : y / 2 ^ bits us ≡ x / 2 ^ bits us % 2 ^ bits vs = ap (λ (n : ℕ). x % 2 ^ n / 2 ^ bits us) sum ∙ field x (bits vs) (bits us) in
     let end : y % 2 ^ bits us ≡ x % 2 ^ bits us = ap (λ (n : ℕ). x % 2 ^ n % 2 ^ bits us) sum ∙ mod-mod-pow x (bits vs) (bits us) in
     ap₂ ◌∷◌ top (ih ∙ ap₂ (λ (a b : ℕ). unpack vs a ++ unpack us b) mid end)
+
+pub unpack_append : (vs us : List ℕ) (x : ℕ) → x < 2 ^ bits (vs ++ us) → unpack (vs ++ us) x ≡ unpack vs (x / 2 ^ bits us) ++ unpack us (x % 2 ^ bits us)
+unfolding unpack bits
+unpack_append [] us x h = ap (unpack us) (sym (mod-eq_of_lt h))
+unpack_append (v ∷ vs) us x h = more_apart v vs us x (unpack_append vs us _ (mod-lt x (pow_pos (bits (vs ++ us)))))
+
+-- the same of any number, where some width is first
+pub unpack_append_first : (v : ℕ) (vs us : List ℕ) (x : ℕ) → unpack (v ∷ vs ++ us) x ≡ unpack (v ∷ vs) (x / 2 ^ bits us) ++ unpack us (x % 2 ^ bits us)
+unpack_append_first v vs us x = more_apart v vs us x (unpack_append vs us _ (mod-lt x (pow_pos (bits (vs ++ us)))))
 
 -- fields that pack to two words have those words' bytes
 pub row_of_words : (ws fs : List ℕ) (h l : ℕ) → pack ws fs ≡ h * 2 ^ 64 + l → h < 2 ^ 64 → l < 2 ^ 64 → recut ws (byte_widths row_size) fs ≡ row_bytes h l

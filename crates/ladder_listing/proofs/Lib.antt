@@ -6,4 +6,5 @@ pub mod Preparing
 pub mod Printing
 pub mod RowLines
 pub mod Settled
+pub mod Verdicts
 pub mod WholeText

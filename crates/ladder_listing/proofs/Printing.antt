@@ -14,7 +14,7 @@ use Rattle.ladder_line.specs.Writing.{Puts}
 use Rattle.ladder_line.proofs.Putting.{put_none, put_front}
 
 -- what is put to the front is printed
-printed : (l : Result Listing Refusal) (table : List ℕ) (k : ℕ) {old new : List ℕ} {r : ℕ} → Puts old 0 (line_at l table k) r new → Prints l table k old r new
+pub printed : (l : Result Listing Refusal) (table : List ℕ) (k : ℕ) {old new : List ℕ} {r : ℕ} → Puts old 0 (line_at l table k) r new → Prints l table k old r new
 printed l table k puts = record { size = omega (arith, puts.place); text = put_front puts }
 
 module _ {table old new : List ℕ} {r : ℕ} where

@@ -37,7 +37,7 @@ line_read p row =
     if_sound (score_verdict p row.periods) (row_line row.start (loss (jobs_of p) ts) ts) []
 
 module _ (p : Profile) (table : List ℕ) (k : ℕ) where
-  no_such_row : rows_in table ≤ k → line_of_row p table k ≡ []
+  pub no_such_row : rows_in table ≤ k → line_of_row p table k ≡ []
   unfolding line_of_row
   no_such_row h = rw (le-ltb k (rows_in table) h) refl
 
@@ -46,11 +46,11 @@ module _ (p : Profile) (table : List ℕ) (k : ℕ) where
     unfolding line_of_row
     here = rw (lt-ltb k (rows_in table) there) (ap (line_read p) (sym is))
 
-    periods_refused : {refusal : Refusal} → Scores p row.periods (Err refusal) → line_of_row p table k ≡ []
+    pub periods_refused : {refusal : Refusal} → Scores p row.periods (Err refusal) → line_of_row p table k ≡ []
     unfolding if_sound verdict_in
     periods_refused scores = here ∙ rw (← verdict_is p row.periods scores) refl
 
-    line_there : {a : Scored} → Scores p row.periods (Ok a) → line_of_row p table k ≡ row_line row.start a.loss (periods_of p row.periods)
+    pub line_there : {a : Scored} → Scores p row.periods (Ok a) → line_of_row p table k ≡ row_line row.start a.loss (periods_of p row.periods)
     unfolding if_sound verdict_in
     line_there scores = here ∙ rw (← verdict_is p row.periods scores, ← sound_loss p row.periods scores refl) refl
 

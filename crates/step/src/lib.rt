@@ -14,8 +14,7 @@ ghost use Rattle.step.specs.Step.{load, LoadsTo, carried, NeedFits, hourly, loss
 use model::{ExactNeed, Job, PagesPerHour, Profile, Remainder, Seconds};
 
 // The pages of a run of each job, as need counts them: from the first job on, since a job's count depends on those before it. That
-// the profile is valid stays a clause: callers of a function that docs/CONTRACTS.md names are asked for no other type, and the
-// others hand their profile on to it.
+// the profile is valid stays a clause: callers of a function that docs/CONTRACTS.md names are asked for no other type.
 #[tactic(auto, using(model::proofs::Validity::job_valid_at), unfolding(crate::specs::Step::greatest_before))]
 pub fn loads_of(p: Profile) -> [u32; 8]
     requires { Valid p }

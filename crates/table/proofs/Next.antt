@@ -11,7 +11,7 @@ use Rattle.model.specs.declared.Job.{Job}
 use Rattle.model.specs.declared.Profile.{Profile}
 use Rattle.model.specs.Model.{jobs_of}
 use Rattle.model.specs.Valid.{ValidJobs, Valid}
-use Rattle.table_stairs.specs.Stairs.{Stair}
+use Rattle.table_stairs.specs.Stairs.{Stair, stair}
 use Rattle.table_stairs.specs.Ordered.{row_at}
 use Rattle.table_climb.specs.Next.{Answer, NextAnswers, last_need, AnswersUnder}
 use Rattle.table_climb.proofs.Answers.{need_last}
@@ -45,7 +45,7 @@ module _ (js : List Job) (v : ValidJobs js) where
 -- a batch, as the functions of this crate get it
 module _ {p : Profile} (v : Valid p) {budget : PagesPerHour} {rows : List Stair} (b : AnswersUnder (jobs_of p) budget rows) where
   pub batch_need : 0 < length rows → (row_at rows (length rows - 1)).its_need ≡ last_need (suc budget.0) rows
-  batch_need some = sym (need_last (suc budget.0) rows (length rows - 1) (omega arith))
+  batch_need some = sym (need_last (stair 0 0 []) (suc budget.0) rows (length rows - 1) (omega arith))
 
   pub batch_count : length (rows_below (jobs_of p) (suc budget.0)) ≡ length (rows_below (jobs_of p) (last_need (suc budget.0) rows)) + length rows
   batch_count = count_next (jobs_of p) v.jobs (suc budget.0) rows b.next

@@ -2,21 +2,23 @@
 -- all rows, and where all have their places those seen stand there.
 -- Assumes nothing.
 use mathlib.Core.Path.{◌≡◌, refl, ◌∙◌, ap}
-use mathlib.Core.List.{List}
+use mathlib.Core.List.{List, []}
 use Prim.Native.Nat.{ℕ, suc, ◌+◌, ◌-◌, ◌/◌, ◌^◌, ◌≤◌, ◌<◌}
 use native.Mathlib.Omega.{arith}
 use native.Mathlib.Nat.{sub-zero}
 use lib.ListN.{length}
+use Rattle.model.specs.declared.Seconds.{Seconds}
 use Rattle.model.specs.declared.PagesPerHour.{PagesPerHour}
 use Rattle.model.specs.declared.Job.{Job}
 use Rattle.model.specs.declared.Profile.{Profile}
-use Rattle.model.specs.Model.{jobs_of, row_size}
+use Rattle.model.specs.Model.{jobs_of, Permitted, FitsBudget, row_size}
 use Rattle.model.specs.Valid.{Valid}
 use Rattle.table_stairs.specs.Stairs.{Stair}
 use Rattle.table_stairs.specs.Ordered.{row_at}
 use Rattle.table_climb.specs.Next.{last_need, AnswersUnder}
 use Rattle.table_batch.specs.Batch.{with_batch}
-use Rattle.table.specs.Descent.{rows_below, all_budgets, Wrote}
+use Rattle.table.specs.declared.Batch.{Batch}
+use Rattle.table.specs.Descent.{rows_below, all_budgets, Wrote, WroteBatch}
 use Rattle.table.proofs.Descent.{rows_few, rows_zero}
 use Rattle.table.proofs.Next.{batch_need, batch_count, batch_none}
 use Rattle.table.proofs.TableRows.{Writing, none_written, all_written, batch_written}
@@ -63,3 +65,14 @@ module _ {p : Profile} {end : ℕ} {old out : List ℕ} {budget : PagesPerHour} 
         same = size ∙ i.same;
         written = λ all room. rw (e, ← place, left) (batch_written v.jobs room rows b.next (i.written all room));
       }
+
+module _ {p : Profile} {end : ℕ} {old out : List ℕ} {budget : PagesPerHour} {seen : ℕ} (v : Valid p) (i : Seen (jobs_of p) end old out seen (suc budget.0)) where
+  -- nothing fits
+  pub none_fits : ((ts : List Seconds) → Permitted (jobs_of p) ts → FitsBudget (jobs_of p) ts budget → ⊥) → Wrote (jobs_of p) end old out seen
+  none_fits h =
+      let none : AnswersUnder (jobs_of p) budget [] = record { next = tt; none = λ e. h } in
+      none_found v i none refl
+
+  -- one batch more, as it is told
+  pub batch_told : {new : List ℕ} {next : ℕ} {r : Batch} → WroteBatch (jobs_of p) budget (end - seen) out new r → length new ≡ length out → next ≡ r.need.0 → Seen (jobs_of p) end old new (seen + r.rows) next
+  batch_told w size is = rw w.number (batch_seen v i w.under (omega (arith, w.number, w.some)) size w.bytes (rw is (rw (← w.number) w.last)))

@@ -1,11 +1,17 @@
 -- The table as a list that can be computed, from the greatest budget down. Only the contracts of private functions cite this.
 -- Assumes nothing.
-use Rattle.std.specs.Prelude.{◌≡◌, List, [], ◌∷◌, ◌++◌, ℕ, zero, suc, ◌*◌, ◌/◌, ◌^◌, ◌≤◌, ◌<◌, length, drop}
+use Rattle.std.specs.Prelude.{◌≡◌, List, [], ◌∷◌, ◌++◌, ℕ, zero, suc, ◌-◌, ◌*◌, ◌/◌, ◌^◌, ◌≤◌, ◌<◌, length, drop, Option, None, Some}
 use Rattle.model.specs.declared.Seconds.{Seconds}
+use Rattle.model.specs.declared.PagesPerHour.{PagesPerHour}
 use Rattle.model.specs.declared.Job.{Job}
-use Rattle.model.specs.Model.{Rising, need, row_size}
+use Rattle.model.specs.Model.{Rising, Permitted, need, FitsBudget, row_size}
 use Rattle.walk.specs.Walk.{start, walk}
 use Rattle.choose_offer.specs.Found.{Found, nothing, found, pick}
+use Rattle.table_stairs.specs.Stairs.{Stair}
+use Rattle.table_stairs.specs.Ordered.{row_at}
+use Rattle.table_climb.specs.Next.{AnswersUnder}
+use Rattle.table_batch.specs.Batch.{with_batch}
+use Rattle.table.specs.declared.Batch.{Batch}
 use Rattle.table.specs.Table.{table_bytes}
 
 -- The rows up to what was found: those whose need is below its need, then itself.
@@ -36,3 +42,17 @@ StartsRise js rows = Rising (λ (ts us : List Seconds). (need js ts).0 < (need j
 pub record Wrote (js : List Job) (end : ℕ) (old new : List ℕ) (r : ℕ) : Type 0 where
   pub count : r ≡ length (rows_below js all_budgets)
   pub bytes : end ≡ length (rows_below js all_budgets) → end ≤ length old / row_size → new ≡ table_bytes js (rows_below js all_budgets) ++ drop (row_size * end) old
+
+-- One batch: some next answers under a budget stand in the places before `end`, and told are their number and the need of the last one.
+pub record WroteBatch (js : List Job) (b : PagesPerHour) (end : ℕ) (old new : List ℕ) (r : Batch) : Type 0 where
+  pub stairs : List Stair
+  pub under : AnswersUnder js b stairs
+  pub number : r.rows ≡ length stairs
+  pub some : 0 < r.rows
+  pub last : r.need.0 ≡ (row_at stairs (r.rows - 1)).its_need
+  pub bytes : new ≡ with_batch stairs end old
+
+-- It is told, or nothing fits the budget and no byte was touched.
+abbrev pub WroteNext : List Job → PagesPerHour → ℕ → List ℕ → List ℕ → Option Batch → Type 0
+WroteNext js b end old new None = ((ts : List Seconds) → Permitted js ts → FitsBudget js ts b → ⊥) × (new ≡ old)
+WroteNext js b end old new (Some r) = WroteBatch js b end old new r

@@ -7,14 +7,15 @@
 // greatest budget, then the best below their need, and so on until nothing fits; each walk collects a batch of them.
 #![tactic(auto)]
 
-ghost use Rattle.std.specs.Prelude.{◌≤◌, length};
+ghost use Rattle.std.specs.Prelude.{List, ◌≤◌, length};
 ghost use Rattle.model.specs.Model.{jobs_of};
 ghost use Rattle.model.specs.Valid.{Valid};
+ghost use Rattle.table_stairs.specs.Stairs.{Stair};
+ghost use Rattle.table_climb.specs.Next.{AnswersUnder};
 ghost use Rattle.table.specs.Table.{Built};
-ghost use Rattle.table.specs.Descent.{rows_below, all_budgets, Wrote};
+ghost use Rattle.table.specs.Descent.{rows_below, all_budgets, Wrote, WroteNext};
 
 use model::{PagesPerHour, Profile, Refusal};
-use table_enter::Stairs;
 
 const GREATEST_BUDGET: PagesPerHour = PagesPerHour(0xffff_ffff);
 
@@ -53,23 +54,44 @@ fn write_rows(p: Profile, end: usize, out: &mut [u8]) -> usize
     requires all_budgets_len_bound { length (rows_below (jobs_of p) all_budgets) ≤ end }
     ensures { Wrote (jobs_of p) end out.old out.new result }
 {
-    let mut stairs = Stairs::new();
     let mut seen: usize = 0;
     let mut budget = GREATEST_BUDGET;
     // By hand: how many rows a turn sees, only the walk tells.
     while seen < end {
-        table_climb::answers_under(p, budget, &mut stairs);
-        let rows = stairs.rows();
-        if rows.is_empty() {
+        let Some(batch) = write_next(p, budget, end - seen, out) else {
+            return seen;
+        };
+        seen += batch.rows;
+        if batch.need.0 == 0 {
             return seen;
         }
-        table_batch::write_batch(rows, end - seen, out);
-        seen += rows.len();
-        let need = table_batch::last_need(rows);
-        if need.0 == 0 {
-            return seen;
-        }
-        budget = PagesPerHour(need.0 - 1);
+        budget = PagesPerHour(batch.need.0 - 1);
     }
     seen
+}
+
+// How many rows a walk wrote, and the need of the last of them.
+#[derive(Clone, Copy)]
+struct Batch {
+    rows: usize,
+    need: PagesPerHour,
+}
+
+// Writes the next rows under a budget to the places before `end`, where `out` has these; none where nothing fits. Apart from the
+// loop, so that a staircase is read where it was made: in the loop's own body each turn would copy it twice.
+fn write_next(p: Profile, budget: PagesPerHour, end: usize, out: &mut [u8]) -> Option<Batch>
+    requires valid { Valid p }
+    requires room { (rows : List Stair) → AnswersUnder (jobs_of p) budget rows → length rows ≤ end }
+    ensures { WroteNext (jobs_of p) budget end out.old out.new result }
+{
+    let stairs = table_climb::answers_under(p, budget);
+    let rows = stairs.rows();
+    if rows.is_empty() {
+        return None;
+    }
+    table_batch::write_batch(rows, end, out);
+    Some(Batch {
+        rows: rows.len(),
+        need: table_batch::last_need(rows),
+    })
 }

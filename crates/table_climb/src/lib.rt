@@ -11,14 +11,21 @@ ghost use Rattle.table_climb.specs.Next.{AnswersUnder};
 use model::{PagesPerHour, Profile, Seconds};
 use table_enter::Stairs;
 
-// A staircase is left with the next answers under a budget, in rising loss and falling need; what stood in it leaves.
-// That the profile is valid stays a clause, as in `step::loads_of`.
-pub fn answers_under(p: Profile, budget: PagesPerHour, stairs: &mut Stairs)
+// A staircase of the next answers under a budget, in rising loss and falling need. That the profile is valid stays a clause, as in
+// `step::loads_of`.
+pub fn answers_under(p: Profile, budget: PagesPerHour) -> Stairs
     requires { Valid p }
-    ensures { AnswersUnder (jobs_of p) budget stairs.new.rows }
+    ensures { AnswersUnder (jobs_of p) budget result.rows }
 {
     let numbers = walk_arrays::numbers_of(p);
     let mut periods = [Seconds(0); 8];
-    stairs.clear();
-    walk::climb(&numbers, budget, walk::NONE_BEGUN, &mut periods, stairs);
+    let mut stairs = Stairs::new();
+    walk::climb(
+        &numbers,
+        budget,
+        walk::NONE_BEGUN,
+        &mut periods,
+        &mut stairs,
+    );
+    stairs
 }

@@ -5,6 +5,7 @@
 #![tactic(auto)]
 
 ghost use Rattle.std.specs.Prelude.{◌≡◌, ◌&&◌, not, ◌≤◌, ◌<◌, length, leb, ltb};
+ghost use Rattle.walk.specs.Laws.{IsPeriod};
 ghost use Rattle.table_stairs.specs.Stairs.{most, no_bound, no_stairs, covered, at_most, enter};
 ghost use Rattle.table_stairs.specs.Ordered.{Staircase, Ordered, replaced};
 ghost use Rattle.table_stairs.proofs.Ordered.{stairs_absorb};
@@ -101,9 +102,13 @@ impl Stairs {
 impl Keep for Stairs {
     ghost Good = { Ordered };
 
+    ghost Keepable = { IsPeriod };
+
     ghost update = { λ budget. enter most budget.0 };
 
     ghost absorbs = { λ budget. stairs_absorb budget.0 };
+
+    ghost keeps_periods = { λ t is. is };
 
     // Whether no plan that loses at least `floor` enters.
     fn is_done(&self, floor: u64) -> bool {

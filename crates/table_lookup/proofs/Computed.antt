@@ -3,7 +3,7 @@
 use mathlib.Core.Path.{◌≡◌, refl, sym, ◌∙◌, subst}
 use mathlib.Core.List.{List}
 use mathlib.Core.Bool.{Bool, true, false, cond, ◌&&◌, true≢false}
-use Prim.Native.Nat.{ℕ, ◌+◌, ◌%◌, ◌≤◌}
+use Prim.Native.Nat.{ℕ, ◌+◌, ◌%◌, ◌≤◌, ◌<◌}
 use lib.ListN.{length}
 use Rattle.std.specs.Prelude.{Option, Some, None, Result, Ok, Err}
 use Rattle.std.proofs.lemmas.Option.{none-some}
@@ -18,16 +18,19 @@ use Rattle.model.proofs.Allowing.{both_true}
 use Rattle.model.proofs.ProfileFirst.{computed_first}
 use Rattle.model.proofs.Validity.{sound_valid}
 use Rattle.table_row.specs.Table.{rows_in, start_at}
-use Rattle.table_check.specs.Formed.{WholeRows, WellFormed}
+use Rattle.table_check.specs.Formed.{GoodRow, WholeRows, WellFormed}
 use Rattle.table_check.specs.Checks.{Checked, all_good, first_bad}
 use Rattle.table_check.proofs.Tests.{first_bad_from, bad_computed}
 use Rattle.table_lookup.specs.Lookup.{Finds, wrong_length, bad_row, below_first, answering, Locates}
 use Rattle.table_lookup.proofs.Finding.{last_within, last_answers}
 
 -- what the check of the rows says
+pub none_bad : {p : Profile} {bytes : List ℕ} {r : Option ℕ} → Checked p bytes r → r ≡ None → (k : ℕ) → k < rows_in bytes → GoodRow p bytes k
+none_bad (all_good good) e = good
+none_bad (first_bad f) e = absurd (none-some _ (sym e))
+
 pub formed : {p : Profile} {bytes : List ℕ} {r : Option ℕ} → WholeRows bytes → Checked p bytes r → r ≡ None → WellFormed p bytes
-formed w (all_good good) e = record { size = w; rows = good }
-formed w (first_bad f) e = absurd (none-some _ (sym e))
+formed w checked e = record { size = w; rows = none_bad checked e }
 
 pub bad_named : {p : Profile} {bytes : List ℕ} {b : PagesPerHour} {r : Option ℕ} {n : ℕ} → Checked p bytes r → r ≡ Some n → WholeRows bytes → Finds p bytes b (Err (Row n))
 bad_named (all_good good) e w = absurd (none-some _ e)

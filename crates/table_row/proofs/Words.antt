@@ -8,7 +8,7 @@ use native.Mathlib.Nat.{mod-lt}
 use native.Mathlib.Decide.{dec_lt}
 use native.Mathlib.Omega.{arith}
 use lib.Arith.{digits_lt}
-use lib.Pow.{pow_pos, shr_lt, split, high, low}
+use lib.Pow.{pow_pos, split, high, low}
 use lib.ListN.{length, get_or, take, drop, length-take, length-drop, length-map, get_or-eq_default}
 use lib.Seq.{get_or-take, drop-cons}
 use Rattle.model.specs.declared.Seconds.{Seconds}
@@ -113,9 +113,9 @@ module _ (h l : ℕ) where
   length_periods = length-drop 1 (word_fields h l) ∙ omega (arith, length_fields)
 
   -- the start is the first field
-  pub start_first : h < 2 ^ 64 → l < 2 ^ 64 → word_start h ∷ word_periods h l ≡ word_fields h l
-  start_first hh ll =
-      ap (λ (x : ℕ). x ∷ word_periods h l) (start_cut h l hh ll)
+  pub start_first : l < 2 ^ 64 → word_start h ∷ word_periods h l ≡ word_fields h l
+  start_first ll =
+      ap (λ (x : ℕ). x ∷ word_periods h l) (start_cut h l ll)
       ∙ sym (drop-cons (word_fields h l) 0 0 (omega (arith, length_fields)))
 
   packed : h < 2 ^ 64 → l < 2 ^ 64 → pack table_widths (word_fields h l) ≡ h * 2 ^ 64 + l
@@ -126,7 +126,7 @@ module _ (h l : ℕ) where
   pub row_of_cut : h < 2 ^ 64 → l < 2 ^ 64 → table_row (pages_per_hour (word_start h)) (map seconds (word_periods h l)) ≡ row_bytes h l
   row_of_cut hh hl =
       row_of_eight (word_start h) (word_periods h l) length_periods
-      ∙ ap (recut table_widths (byte_widths row_size)) (start_first hh hl)
+      ∙ ap (recut table_widths (byte_widths row_size)) (start_first hl)
       ∙ row_of_words table_widths (word_fields h l) h l (packed hh hl) hh hl
 
 -- what is put together is cut apart
@@ -143,10 +143,9 @@ module _ (start : ℕ) (ps : List ℕ) (f : Fields ps) (small : start < 2 ^ 32) 
   fields_back = ap (unpack table_widths) (split (pack table_widths (start ∷ ps)) 64) ∙ unpack_pack table_widths (start ∷ ps) fields_within
 
   both_back : word_start (words_of start ps).high ∷ word_periods (words_of start ps).high (words_of start ps).low ≡ start ∷ ps
-  unfolding bits
   both_back =
       let whole = pack table_widths (start ∷ ps) in
-      start_first (words_of start ps).high (words_of start ps).low (shr_lt 64 64 (pack_lt table_widths (start ∷ ps) fields_within)) (mod-lt whole (pow_pos 64)) ∙ fields_back
+      start_first (words_of start ps).high (words_of start ps).low (mod-lt whole (pow_pos 64)) ∙ fields_back
 
   pub start_back : word_start (words_of start ps).high ≡ start
   start_back = ap (λ (l : List ℕ). get_or l 0 0) both_back

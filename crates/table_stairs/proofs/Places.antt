@@ -39,6 +39,15 @@ loss_up rows s a b le to = go (dec_lt a b)
         let is : a ≡ b = omega arith in
         omega (arith, ap (λ (k : ℕ). (row_at rows k).its_loss) is)
 
+pub need_down : (rows : List Stair) → Staircase rows → (a b : ℕ) → a ≤ b → b < length rows → (row_at rows b).its_need ≤ (row_at rows a).its_need
+need_down rows s a b le to = go (dec_lt a b)
+  where
+    go : Dec (a < b) → (row_at rows b).its_need ≤ (row_at rows a).its_need
+    go (yes less) = omega (arith, (rises rows s a b less to).needs)
+    go (no same) =
+        let is : a ≡ b = omega arith in
+        omega (arith, ap (λ (k : ℕ). (row_at rows k).its_need) is)
+
 -- a part of a staircase is one
 staircase_drop : (i : ℕ) (rows : List Stair) → Staircase rows → Staircase (drop i rows)
 staircase_drop zero rows s = s

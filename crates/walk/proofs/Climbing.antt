@@ -3,12 +3,13 @@
 -- Assumes nothing.
 use mathlib.Core.Path.{◌≡◌, refl, sym, ◌∙◌, ap, subst}
 use mathlib.Core.List.{List, [], ◌∷◌, ◌++◌}
-use Prim.Native.Nat.{ℕ, zero, suc, ◌+◌, ◌*◌, ◌/◌, ◌%◌, ◌≤◌, ◌<◌, max}
+use Prim.Native.Nat.{ℕ, zero, suc, ◌+◌, ◌*◌, ◌-◌, ◌/◌, ◌%◌, ◌≤◌, ◌<◌, max}
 use native.Mathlib.Omega.{arith}
 use native.Mathlib.Numerals.{add-one}
 use native.Mathlib.Nat.{le_refl, le_trans, mul-mod_left, add-mod_right, mul-div_cancel, div-mul-le_self}
 use lib.ListN.{length, take, set}
 use lib.Seq.{take-suc-set, take-set-le}
+use Rattle.std.specs.Prelude.{All}
 use Rattle.std.proofs.lemmas.List.Elements.{All-push}
 use Rattle.model.specs.declared.Seconds.{Seconds}
 use Rattle.model.specs.declared.Job.{Job}
@@ -23,7 +24,7 @@ use Rattle.walk.specs.declared.Begun.{Begun}
 use Rattle.walk.specs.Walk.{need_floor, next, walk, walk_from, walk_by}
 use Rattle.walk.specs.Numbers.{numbers_at, HoldsJob, Held}
 use Rattle.walk.specs.Steps.{loss_held, LossHeldFits, tries_held, Ends, Unreached, PassedOver, Repeats, node_of, Later, IsLossFloor, Ready, Walked}
-use Rattle.walk.specs.Laws.{WithinHour, Pageless, Keeps, Absorbs}
+use Rattle.walk.specs.Laws.{IsPeriod, Pageless, Keeps, Absorbs}
 use Rattle.model.proofs.Rounding.{round_up_above, round_up_some}
 use Rattle.walk.proofs.Bounds.{loss_floor_bound}
 use Rattle.walk.proofs.Chains.{multiples_lists}
@@ -46,9 +47,10 @@ shorter i xs ys e = sym (twice i xs) ∙ ap (take i) e ∙ twice i ys
     twice (suc k) [] = refl
     twice (suc k) (z ∷ zs) = ap (λ (l : List Seconds). z ∷ l) (twice k zs)
 
--- one more period
-pub hour_set : (ps : List Seconds) (i : ℕ) (t : Seconds) → i < length ps → 1 ≤ t.0 → t.0 ≤ 3600 → WithinHour (take i ps) → WithinHour (take (i + 1) (set ps i t))
-hour_set ps i t h from to within = rw (periods_more i t ps h) (All-push (λ (s : Seconds). (1 ≤ s.0) × (s.0 ≤ 3600)) (take i ps) t within (from, to))
+-- one more period, where of each period no more is asked than that it is one
+module _ (P : Seconds → Type 0) (asks : (t : Seconds) → IsPeriod t → P t) where
+  pub hour_set : (ps : List Seconds) (i : ℕ) (t : Seconds) → i < length ps → 1 ≤ t.0 → t.0 ≤ 3600 → All P (take i ps) → All P (take (i + 1) (set ps i t))
+  hour_set ps i t h from to within = rw (periods_more i t ps h) (All-push P (take i ps) t within (asks t (from, to)))
 
 multiple_more : (t p : ℕ) → t % p ≡ 0 → (t + p) % p ≡ 0
 multiple_more t p e = add-mod_right t p ∙ e
@@ -127,6 +129,13 @@ module _ {A : Type 0} {f : ℕ → ℕ → List Seconds → A → A} {m : Number
 
     pub up_next_to : t.0 + b.last.0 ≤ 7200
     up_next_to = omega (arith, up_to_lem, u.ready.to)
+
+    pub up_place : b.jobs < 8
+    up_place = omega (arith, u.less, u.ready.held.most)
+
+    -- less is left to try
+    pub up_falls : tries.last.0 + 1 - (t.0 + b.last.0) < tries.last.0 + 1 - t.0
+    up_falls = omega (arith, u.on, u.ready.from)
 
     opened : Opened m b.jobs u.ready.greatest u.ready.js
     opened = held_open u.ready.js u.less u.ready.held

@@ -16,7 +16,7 @@ use Rattle.walk.specs.declared.Numbers.{Numbers}
 use Rattle.walk.specs.declared.Begun.{Begun}
 use Rattle.walk.specs.Walk.{need_floor, Node, walk_by}
 use Rattle.walk.specs.Numbers.{numbers_at, HoldsJob, Held}
-use Rattle.walk.specs.Steps.{MayTry, Unreached, Ready}
+use Rattle.walk.specs.Steps.{MayTry, Ends, Unreached, Ready}
 use Rattle.walk.specs.Laws.{ListsAllowed}
 use Rattle.walk.proofs.Walk.{walk_out_of_reach}
 use Rattle.walk.proofs.Bounds.{least_needs_bound}
@@ -49,9 +49,25 @@ module _ {m : Numbers} {b : Begun} (r : Ready m b) where
   pub ready_more : (b.jobs ≡ m.n → ⊥) → b.jobs < m.n
   ready_more some = omega (arith, r.held.count)
 
-  -- what a whole plan is asked for
   pub ready_need : NeedFits b.written b.last
   ready_need = bounded_fits r.bounded place_to r.from r.to
+
+  pub ready_ends : Ends m b.jobs b.last
+  ready_ends = record { most = r.held.most; from = r.from }
+
+  -- the need floor of the jobs to come
+  pub need_floor_to : need_floor r.greatest b.written b.last r.js ≤ most_need
+  unfolding need_floor
+  need_floor_to =
+      omega (arith, need_bound r.bounded r.from, least_needs_bound r.greatest r.js (held_valid r.js r.held), r.held.count, r.held.most)
+
+  -- what a whole plan is asked for
+  pub ready_plan : NeedFits b.written b.last × (b.lost ≤ most_loss * 8)
+  ready_plan = (ready_need, omega (arith, r.bounded.lost_to, place_to))
+
+  -- what the need floor asks
+  pub ready_floor : (b.jobs ≤ 8) × (NeedFits b.written b.last × (need_floor r.greatest b.written b.last r.js ≤ most_need))
+  ready_floor = (place_to, (ready_need, need_floor_to))
 
   -- one more job
   module _ (less : b.jobs < m.n) where
@@ -69,7 +85,7 @@ module _ {m : Numbers} {b : Begun} (r : Ready m b) where
 
     -- at a multiple of the period before
     module _ (t : Seconds) (multiple : t.0 % b.last.0 ≡ 0) (above : (numbers_at m b.jobs).lo.0 ≤ t.0) (below : t.0 ≤ (numbers_at m b.jobs).hi.0) where
-      next_allowed : {greatest : ℕ} (j : Job) {js : List Job} → HoldsJob m b.jobs greatest j js → Allowed j b.last t
+      pub next_allowed : {greatest : ℕ} (j : Job) {js : List Job} → HoldsJob m b.jobs greatest j js → Allowed j b.last t
       next_allowed j h = record { above = rw h.shortest at above; below = rw h.longest at below; multiple = multiple }
 
       pub next_ready : {lost : ℕ} → lost ≤ most_loss * (b.jobs + 1) → Ready m (more_begun b t (carried b.written b.last t (numbers_at m b.jobs).load) lost)

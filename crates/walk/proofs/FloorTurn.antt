@@ -2,7 +2,7 @@
 -- Assumes nothing.
 use mathlib.Core.Path.{◌≡◌, sym, ◌∙◌, ap, subst}
 use mathlib.Core.List.{List, [], ◌∷◌}
-use Prim.Native.Nat.{ℕ, ◌+◌, ◌*◌, ◌≤◌, ◌<◌, max}
+use Prim.Native.Nat.{ℕ, ◌+◌, ◌*◌, ◌≤◌, ◌<◌, max, zero-le}
 use native.Mathlib.Omega.{arith}
 use native.Mathlib.Numerals.{add-one}
 use lib.ListN.{length, get_or, drop}
@@ -24,6 +24,10 @@ use Rattle.std.proofs.lemmas.List.{drop_all}
 pub record FloorTo (m : Numbers) (i : ℕ) (t : Seconds) (floor k : ℕ) : Type 0 where
   pub small : floor ≤ most_loss * k
   pub is : (greatest : ℕ) (js : List Job) → Held m i greatest js → floor + loss_floor (drop k js) t.0 ≡ loss_floor js t.0
+
+-- before the first turn
+pub none_summed : {m : Numbers} {i : ℕ} {t : Seconds} → FloorTo m i t 0 0
+none_summed {t = t} = record { small = zero-le; is = λ greatest js h. omega arith }
 
 -- The job at the place that comes next.
 record Coming (m : Numbers) (i k : ℕ) (js : List Job) : Type 0 where

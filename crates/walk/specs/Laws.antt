@@ -37,9 +37,13 @@ pub record Pageless (greatest : ℕ) (j : Job) : Type 0 where
 abbrev pub no_loss : ℕ
 no_loss = 0xffff_ffff_ffff_ffff
 
--- Each is a period: a second at least, and within the hour.
+-- A period is a second at least, and within the hour.
+abbrev pub IsPeriod : Seconds → Type 0
+IsPeriod t = (1 ≤ t.0) × (t.0 ≤ 3600)
+
+-- Each is a period.
 abbrev pub WithinHour : List Seconds → Type 0
-WithinHour ts = All (λ (t : Seconds). (1 ≤ t.0) × (t.0 ≤ 3600)) ts
+WithinHour ts = All IsPeriod ts
 
 module _ {A : Type 0} (f : ℕ → ℕ → List Seconds → A → A) where
   -- What the update has stands against every plan of at least this need and at least this loss.

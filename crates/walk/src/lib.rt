@@ -7,13 +7,13 @@
 // what they require. Nothing is assumed.
 #![tactic(auto)]
 
-ghost use Rattle.std.specs.Prelude.{◌≡◌, true, false, List, ℕ, ◌+◌, ◌*◌, ◌/◌, ◌≤◌, ◌<◌, leb, length, take};
+ghost use Rattle.std.specs.Prelude.{◌≡◌, true, false, List, ℕ, ◌+◌, ◌*◌, ◌/◌, ◌≤◌, ◌<◌, All, leb, length, take};
 ghost use Rattle.model.specs.declared.Seconds.{Seconds};
 ghost use Rattle.model.specs.declared.PagesPerHour.{PagesPerHour};
 ghost use Rattle.model.specs.Model.{pages_per_hour, rounded_up};
 ghost use Rattle.model.specs.Most.{most_need};
 ghost use Rattle.step.specs.Step.{need_at, NeedFits};
-ghost use Rattle.walk.specs.Laws.{no_loss, WithinHour, Keeps, Absorbs};
+ghost use Rattle.walk.specs.Laws.{no_loss, IsPeriod, Keeps, Absorbs};
 ghost use Rattle.walk.specs.Steps.{loss_held, LossHeldFits, tries_held, MayTry, Ends, Unreached, PassedOver, Repeats, Later, IsLossFloor, Ready, Walked};
 
 use model::{ExactNeed, PagesPerHour, Seconds};
@@ -175,6 +175,9 @@ pub trait Keep {
     // What a walk may count on of what is kept.
     ghost Good: { Self → Type 0 };
 
+    // What each period of a plan must be for the plan to be kept.
+    ghost Keepable: { Seconds → Type 0 };
+
     // What is kept after one plan more, by the budget, the plan's need and loss, and its periods.
     ghost update: { PagesPerHour → ℕ → ℕ → List Seconds → Self → Self };
 
@@ -196,12 +199,15 @@ pub trait Keep {
         requires need_bound { need.whole.0 ≤ most_need }
         requires loss_bound { loss < no_loss }
         requires few { length periods.now ≤ 8 }
-        requires within_hour { WithinHour periods.now }
+        requires keepable { All Keepable periods.now }
         ensures good { Good self.new }
         ensures taken { self.new ≡ update budget (rounded_up need).0 loss periods.now self.old };
 
     // A plan once visited takes no more part, whatever else is visited.
     ghost absorbs: { (budget : PagesPerHour) → Absorbs Good (update budget) };
+
+    // A second at least, and within the hour: that is always enough.
+    ghost keeps_periods: { (t : Seconds) → IsPeriod t → Keepable t };
 }
 
 // Tries all permitted plans that go on from `begun`, whose periods stand in front of `periods`, each job's periods in
@@ -214,7 +220,7 @@ pub fn climb<K: Keep>(
     kept: &mut K,
 )
     requires ready { Ready m.now begun }
-    requires within_hour { WithinHour (take begun.jobs periods.old) }
+    requires keepable { All K.Keepable (take begun.jobs periods.old) }
     requires good { K.Good kept.old }
     ensures walked { Walked (K.update budget) m.now begun periods.old periods.new kept.old kept.new }
     ensures good { K.Good kept.new }

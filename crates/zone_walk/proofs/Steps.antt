@@ -234,20 +234,34 @@ module _ (w : Walk) (i : ℕ) (p : Place) (bounds : Bounded w.intervals) (size :
         earlier j h = subst Kept (sym (place_other j (λ e. omega arith))) (t.opens.each j h)
 
 -- what the numbers at the job before say
+module _ (w : Walk) (i : ℕ) (o : Opens w i) (inside : i < w.intervals.n) where
+  abbrev a : ℕ
+  a = last_chosen w i
+
+  abbrev g : ℕ
+  g = greatest_left w i
+
+  abbrev lo : ℕ
+  lo = (interval_at w.intervals i).lo.0
+
+  pub first_asked : (1 ≤ a * g) × (a * g ≤ 2 ^ 24) × (lo ≤ 3600) × (round_up lo (a * g) * a ≤ 2 ^ 24)
+  first_asked =
+      let k = o.each (i - 1) (omega arith) in
+      let s = w.bounded.each i inside in
+      let pos : 1 ≤ a * g = one-le-mul k.multiplier_from (omega arith) in
+      let most : a * g ≤ 3600 * 3600 = mul-le-mul k.multiplier_to k.greatest_to in
+      let wide : lo * 1 ≤ lo * (a * g) = mul-le-mul_left lo pos in
+      let few : round_up lo (a * g) ≤ lo = (round_up_le lo lo pos).1 (omega arith) in
+      let within : round_up lo (a * g) ≤ 3600 = omega arith in
+      let small : round_up lo (a * g) * a ≤ 3600 * 3600 = mul-le-mul within k.multiplier_to in
+      (pos, omega arith, s.short, omega arith)
+
 pub first_tries : (w : Walk) (i m : ℕ) → Opens w i → i < w.intervals.n → m ≡ first_multiplier_at w i → TriesMultiplier w i m
 first_tries w i m o inside e =
-    let k = o.each (i - 1) (omega arith) in
-    let s = w.bounded.each i inside in
-    let lo = (interval_at w.intervals i).lo.0 in
-    let a = last_chosen w i in
-    let b = a * greatest_left w i in
-    let pos : 1 ≤ b = one-le-mul k.multiplier_from (omega arith) in
-    let wide : lo * 1 ≤ lo * b = mul-le-mul_left lo pos in
-    let few : round_up lo b ≤ lo = (round_up_le lo lo pos).1 (omega arith) in
-    let within : round_up lo b ≤ 3600 = omega arith in
-    let small : round_up lo b * a ≤ 3600 * 3600 = mul-le-mul within k.multiplier_to in
-    let some : 1 ≤ round_up lo b * a = one-le-mul (round_up_some s.from pos) k.multiplier_from in
-    record { opens = o; inside = inside; m_from = omega arith; m_to = omega arith }
+    let asked = first_asked w i o inside in
+    let from = (o.each (i - 1) (omega arith)).multiplier_from in
+    let some : 1 ≤ first_multiplier_at w i = one-le-mul (round_up_some (w.bounded.each i inside).from asked.0) from in
+    record { opens = o; inside = inside; m_from = omega arith; m_to = omega (arith, asked) }
 
 opens_fewer : (w : Walk) (i j : ℕ) → Opens w i → 1 ≤ j → j ≤ i → Opens w j
 opens_fewer w i j o from to = record { from = from; to = omega arith; each = λ k h. o.each k (omega arith) }

@@ -50,7 +50,7 @@ refused_listed {p} {old} e = listed p old (own_alone p _ _ _ old (sym e))
 
 -- past the profile's own verdict: the intervals of its jobs, and a walk over them that counts
 module _ {p : Profile} (s : Intervals) (v : Valid p) (h : IntervalsOf p s) where
-  zones_are : zones_in (intervals_in s) ≡ zones_of p
+  pub zones_are : zones_in (intervals_in s) ≡ zones_of p
   zones_are = ap zones_in (intervals_are p s v.n_to h)
 
   pub within_bounds : Bounded s

@@ -26,7 +26,7 @@ words : (z : Zone) → pack zone_widths (zone_fields z) ≡ high_word z * 2 ^ 64
 unfolding pack bits entries
 words z = omega arith
 
-row_of_zone : (z : Zone) (high low : ℕ) → high ≡ high_word z → low ≡ low_word z → high < 2 ^ 64 → low < 2 ^ 64 → row_of z ≡ row_bytes high low
+pub row_of_zone : (z : Zone) (high low : ℕ) → high ≡ high_word z → low ≡ low_word z → high < 2 ^ 64 → low < 2 ^ 64 → row_of z ≡ row_bytes high low
 row_of_zone z high low eh el h l = row_of_words zone_widths (zone_fields z) high low (words z ∙ ap₂ (λ (a b : ℕ). a * 2 ^ 64 + b) (sym eh) (sym el)) h l
 
 pub length_rows : (zs : List Zone) → length (rows_of zs) ≡ row_size * length zs

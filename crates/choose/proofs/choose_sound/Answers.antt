@@ -8,6 +8,7 @@ use Rattle.walk.proofs.Filled.{all_held}
 use Rattle.walk.proofs.Cuts.{ready_start}
 use Rattle.choose_offer.specs.Found.{nothing, pick}
 use Rattle.choose_offer.specs.Plan.{found_in}
+use Rattle.choose_walk.proofs.Lessening.{same_numbers}
 use Rattle.choose.proofs.Answered.{best_found, plan_right, none_right, least_right}
 use Rattle.choose.proofs.choose_sound.Goals.{After-climb}
 use Rattle.choose.proofs.choose_sound.Goals as goal
@@ -40,7 +41,7 @@ returns-in-Some c =
     rw c.told.ensures (plan_right (held d) c.args.budget (walked d) (ap found_in (sym c.in-Some.is) ∙ c.plan.ensures))
 
 pub least_need-requires : goal.least_need-requires
-least_need-requires c = ready_start (all_held c.requires c.numbers_of-numbers.ensures)
+least_need-requires c = record { numbers = _; same = same_numbers _; ready = ready_start (all_held c.requires c.numbers_of-numbers.ensures) }
 
 pub returns-in-Some-least_need : goal.returns-in-Some-least_need
 returns-in-Some-least_need c =

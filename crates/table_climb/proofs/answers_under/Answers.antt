@@ -21,5 +21,5 @@ returns c =
     let p = c.args.p in
     let js = jobs_of p in
     let few : length js ≤ 8 = omega (arith, length_entries no_job p.jobs 0 p.n, c.requires.n_to) in
-    let walked = c.climb.ensures.walked.is 0 js (all_held c.requires c.numbers_of-numbers.ensures) ∙ ap (walk (enter most c.args.budget.0) js start) c.clear.ensures in
+    let walked = c.climb.ensures.walked.is 0 js (all_held c.requires c.numbers_of-numbers.ensures) ∙ ap (walk (enter most c.args.budget.0) js start) c.new-stairs.ensures in
     rw walked (walk_stairs js most c.args.budget c.requires.jobs few (omega arith))

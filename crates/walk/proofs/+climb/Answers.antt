@@ -116,7 +116,8 @@ climb-requires g t c κs within =
     let u = facts g t at.In-loop-job in
     let ready = up_next u (own g t at.After-loss_at) c.carry-written.ensures in
     let place : c.args.begun.jobs < length c.loop-job.periods = omega (arith, c.loop-job.invariant.size, u.less, u.ready.held.most) in
-    (omega (arith, u.less), (within, (ready, (hour_set c.loop-job.periods c.args.begun.jobs c.loop-job.t place ready.from ready.to (rw u.up.before c.requires.within_hour), c.loop-job.invariant.good))))
+    let each = hour_set g.K.Keep.Keepable g.met.K.Keep.keeps_periods c.loop-job.periods c.args.begun.jobs c.loop-job.t place ready.from ready.to (rw u.up.before c.requires.keepable) in
+    (omega (arith, u.less), (within, (ready, (each, c.loop-job.invariant.good))))
 
 pub loop-job-preserved-then-reaches : goal.loop-job-preserved-then-reaches
 loop-job-preserved-then-reaches g t c =
