@@ -30,23 +30,24 @@ rises (r ∷ rows) s a zero less to = absurd (omega arith)
 rises (r ∷ rows) s zero (suc b) less to = s.0 (row_at rows b) (row_in rows b (omega arith))
 rises (r ∷ rows) s (suc a) (suc b) less to = rises rows s.1 a b (omega arith) (omega arith)
 
-pub loss_up : (rows : List Stair) → Staircase rows → (a b : ℕ) → a ≤ b → b < length rows → (row_at rows a).its_loss ≤ (row_at rows b).its_loss
-loss_up rows s a b le to = go (dec_lt a b)
+-- a later row, or the same, loses no less and needs no more
+along : (rows : List Stair) → Staircase rows → (a b : ℕ) → a ≤ b → b < length rows →
+    ((row_at rows a).its_loss ≤ (row_at rows b).its_loss) × ((row_at rows b).its_need ≤ (row_at rows a).its_need)
+along rows s a b le to = go (dec_lt a b)
   where
-    go : Dec (a < b) → (row_at rows a).its_loss ≤ (row_at rows b).its_loss
-    go (yes less) = omega (arith, (rises rows s a b less to).loses)
+    go : Dec (a < b) → ((row_at rows a).its_loss ≤ (row_at rows b).its_loss) × ((row_at rows b).its_need ≤ (row_at rows a).its_need)
+    go (yes less) =
+        let above = rises rows s a b less to in
+        (omega (arith, above.loses), omega (arith, above.needs))
     go (no same) =
         let is : a ≡ b = omega arith in
-        omega (arith, ap (λ (k : ℕ). (row_at rows k).its_loss) is)
+        (omega (arith, ap (λ (k : ℕ). (row_at rows k).its_loss) is), omega (arith, ap (λ (k : ℕ). (row_at rows k).its_need) is))
+
+pub loss_up : (rows : List Stair) → Staircase rows → (a b : ℕ) → a ≤ b → b < length rows → (row_at rows a).its_loss ≤ (row_at rows b).its_loss
+loss_up rows s a b le to = (along rows s a b le to).0
 
 pub need_down : (rows : List Stair) → Staircase rows → (a b : ℕ) → a ≤ b → b < length rows → (row_at rows b).its_need ≤ (row_at rows a).its_need
-need_down rows s a b le to = go (dec_lt a b)
-  where
-    go : Dec (a < b) → (row_at rows b).its_need ≤ (row_at rows a).its_need
-    go (yes less) = omega (arith, (rises rows s a b less to).needs)
-    go (no same) =
-        let is : a ≡ b = omega arith in
-        omega (arith, ap (λ (k : ℕ). (row_at rows k).its_need) is)
+need_down rows s a b le to = (along rows s a b le to).1
 
 -- a part of a staircase is one
 staircase_drop : (i : ℕ) (rows : List Stair) → Staircase rows → Staircase (drop i rows)
