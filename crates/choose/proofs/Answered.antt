@@ -18,12 +18,11 @@ use Rattle.choose_offer.specs.Found.{Found, nothing, pick}
 use Rattle.choose_offer.specs.Plan.{KeptPlan, found_in}
 use Rattle.choose_walk.specs.Least.{none, least}
 use Rattle.choose_walk.specs.Best.{BestFound, BestOrNone}
-use Rattle.choose_walk.specs.Steps.{least_in, Lessens}
+use Rattle.choose_walk.specs.Steps.{least_in, LessensHeld}
 use Rattle.choose.specs.Steps.{settle}
 use Rattle.walk.proofs.Falling.{down_lists}
 use Rattle.walk.proofs.Held.{held_valid}
 use Rattle.choose_walk.proofs.Fold.{walk_best}
-use Rattle.choose_walk.proofs.Lessening.{same_numbers}
 use Rattle.choose.proofs.LeastNeed.{walk_least}
 use Rattle.choose.proofs.Settled.{settled}
 
@@ -47,14 +46,14 @@ module _ {m : Numbers} {js : List Job} (held : Held m 0 0 js) (b : PagesPerHour)
     none_found : BestOrNone js b nothing
     none_found = subst (BestOrNone js b) (sym no-plan) best_or_none
 
-    least_or_none : (r : Option PagesPerHour) → Lessens m none_begun None r → LeastOrNone js (least_in r)
+    least_or_none : (r : Option PagesPerHour) → LessensHeld m none_begun None r → LeastOrNone js (least_in r)
     unfolding least_in
-    least_or_none r l = subst (LeastOrNone js) (sym (l m (same_numbers m) 0 js 0 [] held)) (walk_least down_lists js (held_valid js held))
+    least_or_none r l = subst (LeastOrNone js) (sym (l 0 js 0 [] held)) (walk_least down_lists js (held_valid js held))
 
-    pub none_right : Lessens m none_begun None None → Outcome js b (Err NoPeriods)
+    pub none_right : LessensHeld m none_begun None None → Outcome js b (Err NoPeriods)
     unfolding settle least_in
     none_right l = settled js b nothing none none_found (least_or_none None l)
 
-    pub least_right : {q : PagesPerHour} → Lessens m none_begun None (Some q) → Outcome js b (Err (Budget q))
+    pub least_right : {q : PagesPerHour} → LessensHeld m none_begun None (Some q) → Outcome js b (Err (Budget q))
     unfolding settle least_in
     least_right {q} l = settled js b nothing (least q.0) none_found (least_or_none (Some q) l)

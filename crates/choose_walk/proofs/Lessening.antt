@@ -172,6 +172,17 @@ module _ {m : Numbers} {b : Begun} {tries : Tries} {had now : Option PagesPerHou
 pub same_numbers : (m : Numbers) → ButForStiffness m m
 same_numbers m = record { count = refl; jobs = λ i. refl }
 
+-- what is ready for the other walk may be asked about, and is told of
+pub need_ready : {m : Numbers} {b : Begun} → Ready m b → ReadyForNeed m b
+need_ready {m} r = record {
+  numbers = m;
+  same = same_numbers m;
+  ready = record { greatest = r.greatest; js = r.js; held = r.held; from = r.from; to = r.to; bounded = record { pages_to = r.bounded.pages_to; lost_to = zero-le } };
+}
+
+pub lessens_held : (m : Numbers) (b : Begun) (had r : Option PagesPerHour) → Lessens m b had r → LessensHeld m b had r
+lessens_held m b had r l = l m (same_numbers m)
+
 -- Before each turn, whatever the stiffnesses.
 abbrev pub DownForNeed : Numbers → Begun → Option PagesPerHour → Option PagesPerHour → Seconds → Type 0
 DownForNeed m b had now t = (x : ReadyForNeed m b) → Down x.numbers (nothing_lost b) had now t

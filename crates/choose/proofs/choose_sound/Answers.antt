@@ -8,8 +8,8 @@ use Rattle.walk.proofs.Filled.{all_held}
 use Rattle.walk.proofs.Cuts.{ready_start}
 use Rattle.choose_offer.specs.Found.{nothing, pick}
 use Rattle.choose_offer.specs.Plan.{found_in}
-use Rattle.choose_walk.proofs.Lessening.{same_numbers}
-use Rattle.choose.proofs.Answered.{best_found, plan_right, none_right, least_right}
+use Rattle.choose_walk.proofs.Lessening.{need_ready, lessens_held}
+use Rattle.choose.proofs.Answered.{none_begun, best_found, plan_right, none_right, least_right}
 use Rattle.choose.proofs.choose_sound.Goals.{After-climb}
 use Rattle.choose.proofs.choose_sound.Goals as goal
 
@@ -41,14 +41,14 @@ returns-in-Some c =
     rw c.told.ensures (plan_right (held d) c.args.budget (walked d) (ap found_in (sym c.in-Some.is) ∙ c.plan.ensures))
 
 pub least_need-requires : goal.least_need-requires
-least_need-requires c = record { numbers = _; same = same_numbers _; ready = ready_start (all_held c.requires c.numbers_of-numbers.ensures) }
+least_need-requires c = need_ready (ready_start (all_held c.requires c.numbers_of-numbers.ensures))
 
 pub returns-in-Some-least_need : goal.returns-in-Some-least_need
 returns-in-Some-least_need c =
     let d = (goal.at.returns-in-Some-least_need c).After-climb in
-    least_right (held d) c.args.budget (walked d) (ap found_in (sym c.in-None.is) ∙ c.plan.ensures) (rw c.in-Some-least_need.is at c.least_need.ensures)
+    least_right (held d) c.args.budget (walked d) (ap found_in (sym c.in-None.is) ∙ c.plan.ensures) (lessens_held _ none_begun _ _ (rw c.in-Some-least_need.is at c.least_need.ensures))
 
 pub returns-in-None-least_need : goal.returns-in-None-least_need
 returns-in-None-least_need c =
     let d = (goal.at.returns-in-None-least_need c).After-climb in
-    none_right (held d) c.args.budget (walked d) (ap found_in (sym c.in-None.is) ∙ c.plan.ensures) (rw c.in-None-least_need.is at c.least_need.ensures)
+    none_right (held d) c.args.budget (walked d) (ap found_in (sym c.in-None.is) ∙ c.plan.ensures) (lessens_held _ none_begun _ _ (rw c.in-None-least_need.is at c.least_need.ensures))
