@@ -41,7 +41,7 @@ fn choose_sound(p: Profile, budget: PagesPerHour) -> Result<Choice, Refusal>
     let numbers = walk_arrays::numbers_of(p);
     let mut periods = [Seconds(0); 8];
     let mut best = Best::new();
-    walk::climb(&numbers, budget, NONE_BEGUN, &mut periods, &mut best);
+    walk::climb_where(&numbers, budget, NONE_BEGUN, &mut periods, &mut best);
     match best.plan() {
         Some(plan) => Ok(told(p, &numbers, &plan)),
         None => match choose_walk::least_need(&numbers, NONE_BEGUN, None) {

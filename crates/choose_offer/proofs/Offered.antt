@@ -5,7 +5,7 @@ use native.Mathlib.Omega.{arith}
 use lib.ListN.{length}
 use Rattle.model.specs.Most.{most_need}
 use Rattle.walk.specs.Laws.{no_loss}
-use Rattle.choose_offer.proofs.BestKeep.offer.Reads as offer-contract
+use Rattle.choose_offer.proofs.BestKeepWhere.offer.Reads as offer-contract
 
 -- The arguments are what is kept, the budget, the need, the loss, the periods.
 pub any_periods : (κs : _) (a : _) → let asked = offer-contract.Pre κs a in

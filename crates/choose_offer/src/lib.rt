@@ -12,7 +12,7 @@ ghost use Rattle.choose_offer.specs.Laws.{AnyFound, AnySeconds, pick_absorbs};
 
 use model::{ExactNeed, PagesPerHour, Seconds};
 use std::marker::Model;
-use walk::Keep;
+use walk::{Keep, KeepWhere};
 
 // A whole plan: its need rounded up, its loss, and its periods.
 #[derive(Clone, Copy)]
@@ -127,7 +127,7 @@ impl Best {
 }
 
 // A walk keeps the best that fits its budget.
-impl Keep for Best {
+impl KeepWhere for Best {
     ghost Good = { AnyFound };
 
     ghost Keepable = { AnySeconds };
@@ -154,5 +154,26 @@ impl Keep for Best {
         if rounded <= budget && self.is_beaten_by(rounded, loss) {
             self.plan = Some(Plan::new(rounded, loss, periods));
         }
+    }
+}
+
+// The same, for a walk whose periods lie within the hour.
+impl Keep for Best {
+    ghost Good = { AnyFound };
+
+    ghost update = { λ budget. pick budget.0 };
+
+    ghost absorbs = { λ budget. pick_absorbs budget.0 };
+
+    fn is_done(&self, floor: u64) -> bool {
+        KeepWhere::is_done(self, floor)
+    }
+
+    fn could_take(&self, budget: PagesPerHour, need_floor: PagesPerHour, floor: u64) -> bool {
+        KeepWhere::could_take(self, budget, need_floor, floor)
+    }
+
+    fn offer(&mut self, budget: PagesPerHour, need: ExactNeed, loss: u64, periods: &[Seconds]) {
+        KeepWhere::offer(self, budget, need, loss, periods);
     }
 }

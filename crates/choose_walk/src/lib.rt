@@ -2,7 +2,7 @@
 //
 // specs/Least.antt says what it keeps, specs/Steps.antt what these functions ask and promise. They serve other crates
 // of the planner, and their callers meet what is required. proofs/Fold.antt shows that the walk for the best plan that
-// fits a budget, `walk::climb` with what choose_offer keeps, ends with the best. Nothing is assumed.
+// fits a budget, `walk::climb_where` with what choose_offer keeps, ends with the best. Nothing is assumed.
 #![tactic(auto)]
 
 ghost use Rattle.std.specs.Prelude.{◌≡◌, false, List, ℕ};

@@ -20,7 +20,7 @@ pub fn answers_under(p: Profile, budget: PagesPerHour) -> Stairs
     let numbers = walk_arrays::numbers_of(p);
     let mut periods = [Seconds(0); 8];
     let mut stairs = Stairs::new();
-    walk::climb(
+    walk::climb_where(
         &numbers,
         budget,
         walk::NONE_BEGUN,

@@ -13,7 +13,7 @@ ghost use Rattle.table_stairs.proofs.Ordered.{stairs_absorb};
 use model::{ExactNeed, PagesPerHour, Seconds};
 use std::marker::Model;
 use table_stairs::Stair;
-use walk::Keep;
+use walk::{Keep, KeepWhere};
 
 // The greatest number of rows.
 const MOST: usize = 256;
@@ -99,7 +99,7 @@ impl Stairs {
     }
 }
 
-impl Keep for Stairs {
+impl KeepWhere for Stairs {
     ghost Good = { Ordered };
 
     ghost Keepable = { IsPeriod };
@@ -128,5 +128,26 @@ impl Keep for Stairs {
             let j = table_stairs::needing_less(self.rows(), i, start);
             self.put(i, j, Stair::new(start, loss, periods));
         }
+    }
+}
+
+// The same, for a walk whose periods lie within the hour.
+impl Keep for Stairs {
+    ghost Good = { Ordered };
+
+    ghost update = { λ budget. enter most budget.0 };
+
+    ghost absorbs = { λ budget. stairs_absorb budget.0 };
+
+    fn is_done(&self, floor: u64) -> bool {
+        KeepWhere::is_done(self, floor)
+    }
+
+    fn could_take(&self, budget: PagesPerHour, need_floor: PagesPerHour, floor: u64) -> bool {
+        KeepWhere::could_take(self, budget, need_floor, floor)
+    }
+
+    fn offer(&mut self, budget: PagesPerHour, need: ExactNeed, loss: u64, periods: &[Seconds]) {
+        KeepWhere::offer(self, budget, need, loss, periods);
     }
 }

@@ -10,4 +10,5 @@ pub mod Held
 pub mod FloorTurn
 pub mod Cuts
 pub mod Climbing
+pub mod Lent
 pub mod Filled

@@ -3,3 +3,4 @@ pub mod Walk
 pub mod Numbers
 pub mod Steps
 pub mod Laws
+pub mod Lent

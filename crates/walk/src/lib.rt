@@ -13,7 +13,8 @@ ghost use Rattle.model.specs.declared.PagesPerHour.{PagesPerHour};
 ghost use Rattle.model.specs.Model.{pages_per_hour, rounded_up};
 ghost use Rattle.model.specs.Most.{most_need};
 ghost use Rattle.step.specs.Step.{need_at, NeedFits};
-ghost use Rattle.walk.specs.Laws.{no_loss, IsPeriod, Keeps, Absorbs};
+ghost use Rattle.walk.specs.Laws.{no_loss, IsPeriod, WithinHour, Keeps, Absorbs};
+ghost use Rattle.walk.specs.Lent.{in_place, absorbs_in_place};
 ghost use Rattle.walk.specs.Steps.{loss_held, LossHeldFits, tries_held, MayTry, Ends, Unreached, PassedOver, Repeats, Later, IsLossFloor, Ready, Walked};
 
 use model::{ExactNeed, PagesPerHour, Seconds};
@@ -175,6 +176,40 @@ pub trait Keep {
     // What a walk may count on of what is kept.
     ghost Good: { Self → Type 0 };
 
+    // What is kept after one plan more, by the budget, the plan's need and loss, and its periods.
+    ghost update: { PagesPerHour → ℕ → ℕ → List Seconds → Self → Self };
+
+    // Whether no plan that loses at least `floor` changes what is kept.
+    fn is_done(&self, floor: u64) -> bool
+        requires good { Good self.now }
+        requires floor_bound { floor < no_loss }
+        ensures { result ≡ true → (budget : PagesPerHour) → Keeps (update budget) self.now 0 floor };
+
+    // Whether a plan of at least this need and this loss could change it.
+    fn could_take(&self, budget: PagesPerHour, need_floor: PagesPerHour, floor: u64) -> bool
+        requires good { Good self.now }
+        requires floor_bound { floor < no_loss }
+        ensures { result ≡ false → Keeps (update budget) self.now need_floor.0 floor };
+
+    // One whole plan.
+    fn offer(&mut self, budget: PagesPerHour, need: ExactNeed, loss: u64, periods: &[Seconds])
+        requires good { Good self.old }
+        requires need_bound { need.whole.0 ≤ most_need }
+        requires loss_bound { loss < no_loss }
+        requires few { length periods.now ≤ 8 }
+        requires within_hour { WithinHour periods.now }
+        ensures good { Good self.new }
+        ensures taken { self.new ≡ update budget (rounded_up need).0 loss periods.now self.old };
+
+    // A plan once visited takes no more part, whatever else is visited.
+    ghost absorbs: { (budget : PagesPerHour) → Absorbs Good (update budget) };
+}
+
+// The same, where what is kept says itself what it asks of a plan's periods.
+pub trait KeepWhere {
+    // What a walk may count on of what is kept.
+    ghost Good: { Self → Type 0 };
+
     // What each period of a plan must be for the plan to be kept.
     ghost Keepable: { Seconds → Type 0 };
 
@@ -210,9 +245,52 @@ pub trait Keep {
     ghost keeps_periods: { (t : Seconds) → IsPeriod t → Keepable t };
 }
 
+// What is lent is kept where it stands, and asks that each period lies within the hour.
+impl<K: Keep> KeepWhere for &mut K {
+    ghost Good = { λ r. K.Good r.now };
+
+    ghost Keepable = { IsPeriod };
+
+    ghost update = { λ budget. in_place (K.update budget) };
+
+    ghost absorbs = { λ budget. absorbs_in_place (K.absorbs budget) };
+
+    ghost keeps_periods = { λ t is. is };
+
+    fn is_done(&self, floor: u64) -> bool {
+        (**self).is_done(floor)
+    }
+
+    fn could_take(&self, budget: PagesPerHour, need_floor: PagesPerHour, floor: u64) -> bool {
+        (**self).could_take(budget, need_floor, floor)
+    }
+
+    fn offer(&mut self, budget: PagesPerHour, need: ExactNeed, loss: u64, periods: &[Seconds]) {
+        (**self).offer(budget, need, loss, periods);
+    }
+}
+
 // Tries all permitted plans that go on from `begun`, whose periods stand in front of `periods`, each job's periods in
 // rising order; what is kept takes of them what it will.
 pub fn climb<K: Keep>(
+    m: &Numbers,
+    budget: PagesPerHour,
+    begun: Begun,
+    periods: &mut [Seconds; 8],
+    kept: &mut K,
+)
+    requires ready { Ready m.now begun }
+    requires within_hour { WithinHour (take begun.jobs periods.old) }
+    requires good { K.Good kept.old }
+    ensures walked { Walked (K.update budget) m.now begun periods.old periods.new kept.old kept.new }
+    ensures good { K.Good kept.new }
+{
+    let mut lent = kept;
+    climb_where(m, budget, begun, periods, &mut lent);
+}
+
+// The same, whatever is asked of a plan's periods.
+pub fn climb_where<K: KeepWhere>(
     m: &Numbers,
     budget: PagesPerHour,
     begun: Begun,
@@ -255,7 +333,7 @@ pub fn climb<K: Keep>(
                 written,
                 lost,
             };
-            climb(m, budget, more, periods, kept);
+            climb_where(m, budget, more, periods, kept);
         }
         t = next;
     }

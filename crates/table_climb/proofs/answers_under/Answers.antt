@@ -13,13 +13,13 @@ use Rattle.table_stairs.specs.Stairs.{most, enter}
 use Rattle.table_climb.proofs.Next.{walk_stairs}
 use Rattle.table_climb.proofs.answers_under.Goals as goal
 
-pub climb-requires-clause-ready : goal.climb-requires-clause-ready
-climb-requires-clause-ready c = ready_start (all_held c.requires c.numbers_of-numbers.ensures)
+pub climb_where-requires-clause-ready : goal.climb_where-requires-clause-ready
+climb_where-requires-clause-ready c = ready_start (all_held c.requires c.numbers_of-numbers.ensures)
 
 pub returns : goal.returns
 returns c =
     let p = c.args.p in
     let js = jobs_of p in
     let few : length js ≤ 8 = omega (arith, length_entries no_job p.jobs 0 p.n, c.requires.n_to) in
-    let walked = c.climb.ensures.walked.is 0 js (all_held c.requires c.numbers_of-numbers.ensures) ∙ ap (walk (enter most c.args.budget.0) js start) c.new-stairs.ensures in
+    let walked = c.climb_where.ensures.walked.is 0 js (all_held c.requires c.numbers_of-numbers.ensures) ∙ ap (walk (enter most c.args.budget.0) js start) c.new-stairs.ensures in
     rw walked (walk_stairs js most c.args.budget c.requires.jobs few (omega arith))

@@ -1,4 +1,4 @@
--- `table_enter::StairsKeep::offer` meets its contract: a plan that enters is put in its place, and what stands then is the update.
+-- `table_enter::StairsKeepWhere::offer` meets its contract: a plan that enters is put in its place, and what stands then is the update.
 -- Assumes nothing.
 use mathlib.Core.Path.{◌≡◌, sym, ◌∙◌, ap}
 use mathlib.Core.List.{List}
@@ -10,8 +10,8 @@ use Rattle.table_stairs.specs.Stairs.{Stair, most, losing_less, needing_less, at
 use Rattle.table_stairs.specs.Ordered.{Ordered, replaced}
 use Rattle.table_stairs.proofs.Ordered.{stairs_absorb}
 use Rattle.table_enter.proofs.Putting.{enter_puts, enter_stays}
-use Rattle.table_enter.proofs.StairsKeep.offer.Goals.{After-new, After-takes}
-use Rattle.table_enter.proofs.StairsKeep.offer.Goals as goal
+use Rattle.table_enter.proofs.StairsKeepWhere.offer.Goals.{After-new, After-takes}
+use Rattle.table_enter.proofs.StairsKeepWhere.offer.Goals as goal
 
 -- what is put in its place is the update
 update_is : (c : After-new) → let s = c.args.self.now in

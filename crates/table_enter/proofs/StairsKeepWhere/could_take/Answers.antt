@@ -1,4 +1,4 @@
--- `table_enter::StairsKeep::could_take` meets its contract: over the budget, or covered, nothing enters.
+-- `table_enter::StairsKeepWhere::could_take` meets its contract: over the budget, or covered, nothing enters.
 -- Assumes nothing.
 use mathlib.Core.Path.{◌≡◌, sym, ◌∙◌}
 use mathlib.Core.Bool.{true}
@@ -7,7 +7,7 @@ use borrow.Author.Tests.{tests}
 use Rattle.std.proofs.Common.{rules}
 use Rattle.table_stairs.specs.Stairs.{most, covered}
 use Rattle.table_stairs.proofs.Updates.{keeps_over, keeps_covered}
-use Rattle.table_enter.proofs.StairsKeep.could_take.Goals as goal
+use Rattle.table_enter.proofs.StairsKeepWhere.could_take.Goals as goal
 
 pub returns-then-le : goal.returns-then-le
 returns-then-le c = λ old.

@@ -1,4 +1,4 @@
--- `walk::climb` meets its contract: before each turn of its loop, the walk from the present period up, begun with what
+-- `walk::climb_where` meets its contract: before each turn of its loop, the walk from the present period up, begun with what
 -- is kept, ends as the whole walk does.
 -- Assumes nothing.
 use mathlib.Core.Path.{◌≡◌, ap}
@@ -12,9 +12,9 @@ use Rattle.walk.specs.Steps.{loss_held}
 use Rattle.walk.proofs.Cuts.{ready_more, ready_tries}
 use Rattle.walk.proofs.Climbing.{Turn, up_leaf, up_starts, up_done, up_next_to, up_loss_fits, up_later, up_ends, up_first, up_carry, up_lost}
 use Rattle.walk.proofs.Climbing.{up_floor, up_left, up_pass, up_unreached, up_kept, up_next, up_need, up_need_to, up_turn, hour_set}
-use Rattle.walk.proofs.+climb.Given.{Over}
-use Rattle.walk.proofs.+climb.Goals.{In-loop-job, After-loss_at, else-could_take-via-then-could_take+else-reaches, else-could_take-via-else-could_take}
-use Rattle.walk.proofs.+climb.Goals as goal
+use Rattle.walk.proofs.+climb_where.Given.{Over}
+use Rattle.walk.proofs.+climb_where.Goals.{In-loop-job, After-loss_at, else-could_take-via-then-could_take+else-reaches, else-could_take-via-else-could_take}
+use Rattle.walk.proofs.+climb_where.Goals as goal
 
 pub returns-then-begun-m-clause-walked : goal.returns-then-begun-m-clause-walked
 unfolding need_at
@@ -34,7 +34,7 @@ abbrev Known : (g : Over) (t : ℕ) → In-loop-job g t → Type 0
 Known g t c =
     let l = c.loop-job in
     let a = c.args in
-    Turn (g.K.Keep.update a.budget) a.m.now a.begun g.K.Keep.Good c.to_try-tries.result a.periods.now a.kept.now l.periods l.kept l.t
+    Turn (g.K.KeepWhere.update a.budget) a.m.now a.begun g.K.KeepWhere.Good c.to_try-tries.result a.periods.now a.kept.now l.periods l.kept l.t
 
 facts : (g : Over) (t : ℕ) (c : In-loop-job g t) → Known g t c
 facts g t c =
@@ -44,7 +44,7 @@ facts g t c =
       told = c.to_try-tries.ensures;
       up = c.loop-job.invariant.up;
       on = search rules;
-      absorbs = g.met.K.Keep.absorbs c.args.budget;
+      absorbs = g.met.K.KeepWhere.absorbs c.args.budget;
       good = c.loop-job.invariant.good;
     }
 
@@ -110,20 +110,20 @@ could_take-requires-clause-floor_bound g t c =
 pub reaches-requires : goal.reaches-requires
 reaches-requires g t c = up_ends (facts g t (goal.at.reaches-requires g t c).In-loop-job)
 
-pub climb-requires : goal.climb-requires
-climb-requires g t c κs within =
-    let at = goal.at.climb-requires g t c in
+pub climb_where-requires : goal.climb_where-requires
+climb_where-requires g t c κs within =
+    let at = goal.at.climb_where-requires g t c in
     let u = facts g t at.In-loop-job in
     let ready = up_next u (own g t at.After-loss_at) c.carry-written.ensures in
     let place : c.args.begun.jobs < length c.loop-job.periods = omega (arith, c.loop-job.invariant.size, u.less, u.ready.held.most) in
-    let each = hour_set g.K.Keep.Keepable g.met.K.Keep.keeps_periods c.loop-job.periods c.args.begun.jobs c.loop-job.t place ready.from ready.to (rw u.up.before c.requires.keepable) in
+    let each = hour_set g.K.KeepWhere.Keepable g.met.K.KeepWhere.keeps_periods c.loop-job.periods c.args.begun.jobs c.loop-job.t place ready.from ready.to (rw u.up.before c.requires.keepable) in
     (omega (arith, u.less), (within, (ready, (each, c.loop-job.invariant.good))))
 
 pub loop-job-preserved-then-reaches : goal.loop-job-preserved-then-reaches
 loop-job-preserved-then-reaches g t c =
     let at = goal.at.loop-job-preserved-then-reaches g t c in
     let u = facts g t at.In-loop-job in
-    let w = c.climb.ensures in
+    let w = c.climb_where.ensures in
     let place : c.args.begun.jobs < length c.loop-job.periods = omega (arith, c.loop-job.invariant.size, u.less, u.ready.held.most) in
     record { size = omega arith; good = w.good; up = up_turn u (own g t at.After-loss_at) c.carry-written.ensures place w.walked }
 
