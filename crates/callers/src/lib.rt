@@ -1,7 +1,8 @@
 // The walks as a crate calls them that knew them before they came to ask less or to answer otherwise: each function here has a
 // contract that one of them had, or rests on it, and takes its answer from what stands today.
 //
-// They serve no other crate. A contract of a walk that asks for more than it did, or says less, breaks them. Nothing is assumed.
+// They serve no other crate. A walk that comes to ask for more than these clauses give, or to say less than they promise, breaks them.
+// Nothing is assumed.
 #![tactic(auto)]
 
 ghost use Rattle.std.specs.Prelude.{◌≡◌};

@@ -1,6 +1,7 @@
--- What is kept at a place that is lent: an update of what stands there is one of the place, and absorbs as that does.
+-- What is kept at a place that is lent, and what holds just that: an update of what stands there is one of the place, and absorbs as
+-- that does.
 -- Assumes nothing.
-use mathlib.Core.Path.{ap}
+use mathlib.Core.Path.{◌≡◌, sym, ◌∙◌, ap, subst}
 use mathlib.Core.List.{List}
 use Prim.Native.Nat.{ℕ}
 use Rattle.std.proofs.Common.{MutBor}
@@ -20,4 +21,13 @@ module _ {A : Type 0} where
     good = λ q l ts r g. a.good q l ts r.now g;
     after = λ q l ts r g us. ap (λ (k : A). put k r) (a.after q l ts r.now g us);
     stays = λ q l q' l' ts r g same us. ap (λ (k : A). put k r) (a.stays q l q' l' ts r.now g (λ vs. ap (λ (s : MutBor A). s.now) (same vs)) us);
+  }
+
+-- the same of what holds one thing and no more
+module _ {A B : Type 0} (wrap : A → B) (held : B → A) (whole : (a : A) → held (wrap a) ≡ a) where
+  pub absorbs_wrapped : {Good : A → Type 0} {f : ℕ → ℕ → List Seconds → A → A} → Absorbs Good f → Absorbs (λ (b : B). Good (held b)) (λ q l ts b. wrap (f q l ts (held b)))
+  absorbs_wrapped {Good} {f} a = record {
+    good = λ q l ts b g. subst Good (sym (whole _)) (a.good q l ts (held b) g);
+    after = λ q l ts b g us. ap wrap (ap (f q l us) (whole _) ∙ a.after q l ts (held b) g us);
+    stays = λ q l q' l' ts b g same us. ap wrap (ap (f q l us) (whole _) ∙ a.stays q l q' l' ts (held b) g (λ vs. sym (whole _) ∙ ap held (same vs)) us);
   }

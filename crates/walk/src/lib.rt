@@ -7,14 +7,14 @@
 // what they require. Nothing is assumed.
 #![tactic(auto)]
 
-ghost use Rattle.std.specs.Prelude.{◌≡◌, true, false, List, ℕ, ◌+◌, ◌*◌, ◌/◌, ◌≤◌, ◌<◌, All, leb, length, take};
+ghost use Rattle.std.specs.Prelude.{◌≡◌, refl, true, false, List, ℕ, ◌+◌, ◌*◌, ◌/◌, ◌≤◌, ◌<◌, All, leb, length, take};
 ghost use Rattle.model.specs.declared.Seconds.{Seconds};
 ghost use Rattle.model.specs.declared.PagesPerHour.{PagesPerHour};
 ghost use Rattle.model.specs.Model.{pages_per_hour, rounded_up};
 ghost use Rattle.model.specs.Most.{most_need};
 ghost use Rattle.step.specs.Step.{need_at, NeedFits};
 ghost use Rattle.walk.specs.Laws.{no_loss, IsPeriod, WithinHour, Keeps, Absorbs};
-ghost use Rattle.walk.specs.Lent.{in_place, absorbs_in_place};
+ghost use Rattle.walk.specs.Lent.{in_place, absorbs_in_place, absorbs_wrapped};
 ghost use Rattle.walk.specs.Steps.{loss_held, LossHeldFits, tries_held, MayTry, Ends, Unreached, PassedOver, Repeats, Later, IsLossFloor, Ready, Walked};
 
 use model::{ExactNeed, PagesPerHour, Seconds};
@@ -245,28 +245,33 @@ pub trait KeepWhere {
     ghost keeps_periods: { (t : Seconds) → IsPeriod t → Keepable t };
 }
 
-// What is lent is kept where it stands, and asks that each period lies within the hour.
-impl<K: Keep> KeepWhere for &mut K {
-    ghost Good = { λ r. K.Good r.now };
+// What is kept where it is lent, and asks that each period lies within the hour.
+#[derive(Drop)]
+struct AtPlace<'a, K> {
+    kept: &'a mut K,
+}
+
+impl<'a, K: Keep> KeepWhere for AtPlace<'a, K> {
+    ghost Good = { λ r. K.Good r.kept.now };
 
     ghost Keepable = { IsPeriod };
 
-    ghost update = { λ budget. in_place (K.update budget) };
+    ghost update = { λ budget q l ts r. record { kept = in_place (K.update budget) q l ts r.kept } };
 
-    ghost absorbs = { λ budget. absorbs_in_place (K.absorbs budget) };
+    ghost absorbs = { λ budget. absorbs_wrapped (λ k. record { kept = k }) (λ r. r.kept) (λ r. refl) (absorbs_in_place (K.absorbs budget)) };
 
     ghost keeps_periods = { λ t is. is };
 
     fn is_done(&self, floor: u64) -> bool {
-        (**self).is_done(floor)
+        self.kept.is_done(floor)
     }
 
     fn could_take(&self, budget: PagesPerHour, need_floor: PagesPerHour, floor: u64) -> bool {
-        (**self).could_take(budget, need_floor, floor)
+        self.kept.could_take(budget, need_floor, floor)
     }
 
     fn offer(&mut self, budget: PagesPerHour, need: ExactNeed, loss: u64, periods: &[Seconds]) {
-        (**self).offer(budget, need, loss, periods);
+        self.kept.offer(budget, need, loss, periods);
     }
 }
 
@@ -285,7 +290,7 @@ pub fn climb<K: Keep>(
     ensures walked { Walked (K.update budget) m.now begun periods.old periods.new kept.old kept.new }
     ensures good { K.Good kept.new }
 {
-    let mut lent = kept;
+    let mut lent = AtPlace { kept };
     climb_where(m, budget, begun, periods, &mut lent);
 }
 
